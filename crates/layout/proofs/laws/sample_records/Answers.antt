@@ -1,0 +1,5 @@
+use mathlib.Core.Path.{refl}
+use Rattle.layout.proofs.laws.sample_records.Needs as need
+
+pub returns : need.returns
+returns c = refl
