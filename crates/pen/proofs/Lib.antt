@@ -1,0 +1,4 @@
+pub mod Stack
+pub mod Texts
+pub mod Breaks
+pub mod Blocks

@@ -1,0 +1,70 @@
+-- Where a printer stands, and what a call of it leaves.
+use Prim.Native.Nat.{ℕ, suc, _+_, _-_, _^_, _<_, min}
+use lib.Dec.{ltb, eqb}
+use lib.ListN.{length}
+use mathlib.Core.Bool.{Bool, true, false, cond}
+use mathlib.Core.List.{List, [], _∷_, _++_}
+use mathlib.Core.Path.{_≡_}
+use Rattle.std.specs.declared.result.Result.{Result}
+use Rattle.std.specs.declared.result.Result.the-variants.{Ok, Err}
+use Rattle.lines.specs.Lines.{newlines}
+use Rattle.layout.specs.Tokens.{Token}
+use Rattle.layout.specs.Layout.{Pen as LayoutPen, writes, after, fits, joined}
+use Rattle.layout.specs.Passing.{Passed, decided, pass}
+use Rattle.stream.specs.declared.record.Held.{Held}
+use Rattle.stream.specs.Recorded.{shape, text-of, Shallow}
+use Rattle.scan.specs.Holding.{Holds}
+use Rattle.pen.specs.At.{At}
+use Rattle.sink.specs.declared.fault.SinkFault.{SinkFault}
+use Rattle.sink.specs.Rule.{Rule, kept}
+use Rattle.sink.specs.Fault.{Cut, fault-of}
+use Rattle.printer.specs.declared.fault.PrinterFault.{PrinterFault}
+use Rattle.printer.specs.declared.fault.PrinterFault.the-variants.{Full, Sink}
+use Rattle.printer.specs.declared.printer.passing.Turn.{Turn}
+use Rattle.printer.specs.declared.printer.passing.Turn.the-variants.{Wait, Pass}
+use Rattle.printer.specs.declared.printer.Printer.{Printer}
+
+-- token numbers stop at 2^64 - 1
+abbrev pub capped : ℕ → ℕ
+capped n = min n (2 ^ 64 - 1)
+
+-- no Text has a newline
+abbrev pub Plain : List Token → Type 0
+Plain [] = Unit {0}
+Plain (t ∷ ts) = (newlines (text-of t) ≡ 0) × Plain ts
+
+-- The printer holds the tokens `held` back, of which the first has this number; writing stands at `pen`, and `out` is
+-- what it has written.
+pub record Prints (m : ℕ) (pen : LayoutPen) (held : List Token) (number : ℕ) (out : List ℕ) (p : Printer) : Type 0 where
+  pub scan : Holds number (length (pen .blocks)) held (p .scan)
+  pub pen : At m pen out (p .pen)
+  pub passed : p .passed ≡ capped number
+  pub shallow : Shallow (length (pen .blocks)) held
+  pub plain : Plain held
+
+-- Whether the first of the tokens passes: it waits, or it passes with an answer to whether it fits, by which it writes
+-- and moves on as the layout has it.
+abbrev pub Turned : Bool → ℕ → LayoutPen → List Token → Turn → Type 0
+Turned over m pen [] Wait = Unit {0}
+Turned over m pen [] (Pass s f) = ⊥
+Turned over m pen (t ∷ ts) Wait = decided over m pen t ts ≡ false
+Turned over m pen (t ∷ ts) (Pass s f) = (decided over m pen t ts ≡ true) × (s ≡ shape t) × (writes m pen t f ≡ writes m pen t (fits m pen t ts)) × (after m pen t f ≡ after m pen t (fits m pen t ts))
+
+-- A run of bytes was written behind a text: all of it, or what the rule keeps of it, with the fault.
+abbrev pub Wrote : Rule → List ℕ → List ℕ → ℕ → List ℕ → Result (Unit {0}) SinkFault → Type 0
+Wrote rule before bytes older text (Ok _) = (rule .admits (before ++ bytes) ≡ true) × (text ≡ before ++ bytes)
+Wrote rule before bytes older text (Err f) = Cut rule before bytes older f × (text ≡ before ++ kept (rule .admits) before bytes)
+
+-- the number, among these pieces, of the one that byte n of their text is in
+abbrev pub piece-at : ℕ → List (List ℕ) → ℕ
+piece-at n [] = 0
+piece-at n (p ∷ ps) = cond (ltb n (length p)) 0 (suc (piece-at (n - length p) ps))
+
+-- the fault of a print that the sink cuts: the sink's fault, and the number of the token not wholly written, where the first piece is that of token `number`
+abbrev pub cut-fault : Rule → List ℕ → ℕ → ℕ → List (List ℕ) → PrinterFault
+cut-fault rule before older number pieces = Sink (fault-of rule before (joined pieces) older) (capped (number + piece-at (length (kept (rule .admits) before (joined pieces))) pieces))
+
+-- Pieces were written behind a text: all of them, or what the rule keeps of them, with the fault.
+abbrev pub Printed : Rule → List ℕ → ℕ → ℕ → List (List ℕ) → List ℕ → Result (Unit {0}) PrinterFault → Type 0
+Printed rule before older number pieces text (Ok _) = (rule .admits (before ++ joined pieces) ≡ true) × (text ≡ before ++ joined pieces)
+Printed rule before older number pieces text (Err f) = (length (kept (rule .admits) before (joined pieces)) < length (joined pieces)) × (f ≡ cut-fault rule before older number pieces) × (text ≡ before ++ kept (rule .admits) before (joined pieces))

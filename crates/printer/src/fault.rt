@@ -1,0 +1,38 @@
+// What ends a print: too many tokens held back, or a sink that refuses.
+use sink::fault::SinkFault;
+ghost use mathlib.Core.Path.{_≡_};
+ghost use Rattle.std.specs.declared.result.Result.the-variants.{Ok, Err};
+ghost use Rattle.printer.specs.declared.fault.PrinterFault.the-variants.{Sink as SinkRefused};
+
+#[derive(Clone, Copy, PartialEq, Eq, Debug)]
+pub enum PrinterFault {
+    // 384 tokens are held back already: the refused token's number.
+    Full { token: u64 },
+    // The sink's fault, whole, and the number of the token not wholly written.
+    Sink { fault: SinkFault, token: u64 },
+}
+
+// A sink's fault, with the number of the token that was being written.
+#[derive(Clone, Copy)]
+pub struct AtToken {
+    pub fault: SinkFault,
+    pub token: u64,
+}
+
+pub impl From<AtToken> for PrinterFault as PrinterFaultFromSink {
+    ghost converts = { λ a r. r ≡ SinkRefused (a .fault) (a .token) };
+
+    fn from(a: AtToken) -> PrinterFault {
+        PrinterFault::Sink { fault: a.fault, token: a.token }
+    }
+}
+
+// Adds the token's number to a fault.
+pub fn at_token(r: Result<(), SinkFault>, token: u64) -> Result<(), AtToken>
+    ensures { λ s. ⌜ elim r [ Ok _ ↦ s ≡ Ok tt | Err f ↦ s ≡ Err (record { fault = f; token = token }) ] ⌝ }
+{
+    match r {
+        Ok(()) => Ok(()),
+        Err(fault) => Err(AtToken { fault, token }),
+    }
+}
