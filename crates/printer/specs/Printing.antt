@@ -55,6 +55,38 @@ abbrev pub Wrote : Rule → List ℕ → List ℕ → ℕ → List ℕ → Resul
 Wrote rule before bytes older text (Ok _) = (rule .admits (before ++ bytes) ≡ true) × (text ≡ before ++ bytes)
 Wrote rule before bytes older text (Err f) = Cut rule before bytes older f × (text ≡ before ++ kept (rule .admits) before bytes)
 
+-- the printer has written a token's piece: the pen has moved on, and all else is as it was
+pub record Moved (m : ℕ) (pen : LayoutPen) (out : List ℕ) (p p′ : Printer) : Type 0 where
+  pub pen : At m pen out (p′ .pen)
+  pub scan : p′ .scan ≡ p .scan
+  pub passed : p′ .passed ≡ p .passed
+  pub older : p′ .older ≡ p .older
+
+-- the same, with what stands where all of it was written
+abbrev pub Stepped : Rule → List ℕ → List ℕ → ℕ → List ℕ → Type 0 → Result (Unit {0}) SinkFault → Type 0
+Stepped rule before bytes older text Then (Ok _) = (rule .admits (before ++ bytes) ≡ true) × (text ≡ before ++ bytes) × Then
+Stepped rule before bytes older text Then (Err f) = Cut rule before bytes older f × (text ≡ before ++ kept (rule .admits) before bytes)
+
+-- the first of some tokens, where it is decided
+pub record Decided (over : Bool) (m : ℕ) (pen : LayoutPen) (h : List Token) : Type 0 where
+  pub first : Token
+  pub rest : List Token
+  pub is : h ≡ first ∷ rest
+  pub decides : decided over m pen first rest ≡ true
+
+-- what it writes, and where writing stands after it
+abbrev pub piece : {over : Bool} {m : ℕ} {pen : LayoutPen} {h : List Token} → Decided over m pen h → List ℕ
+piece {over} {m} {pen} {h} d = writes m pen (d .first) (fits m pen (d .first) (d .rest))
+
+abbrev pub next : {over : Bool} {m : ℕ} {pen : LayoutPen} {h : List Token} → Decided over m pen h → LayoutPen
+next {over} {m} {pen} {h} d = after m pen (d .first) (fits m pen (d .first) (d .rest))
+
+-- one token passes; or none may; or the sink cuts it
+abbrev pub Advanced : Bool → ℕ → LayoutPen → List Token → ℕ → List ℕ → Rule → List ℕ → ℕ → List ℕ → Printer → Result Bool PrinterFault → Type 0
+Advanced over m pen h number out rule before older text p (Ok true) = (d : Decided over m pen h) × (rule .admits (before ++ piece d) ≡ true) × (text ≡ before ++ piece d) × Prints m (next d) (d .rest) (suc number) (out ++ piece d) p
+Advanced over m pen h number out rule before older text p (Ok false) = (pass over m pen h ≡ record { pieces = []; pen = pen; held = h }) × (text ≡ before) × Prints m pen h number out p
+Advanced over m pen h number out rule before older text p (Err f) = (d : Decided over m pen h) × (g : SinkFault) × Cut rule before (piece d) older g × (text ≡ before ++ kept (rule .admits) before (piece d)) × (f ≡ Sink g (capped number))
+
 -- the number, among these pieces, of the one that byte n of their text is in
 abbrev pub piece-at : ℕ → List (List ℕ) → ℕ
 piece-at n [] = 0
@@ -68,3 +100,8 @@ cut-fault rule before older number pieces = Sink (fault-of rule before (joined p
 abbrev pub Printed : Rule → List ℕ → ℕ → ℕ → List (List ℕ) → List ℕ → Result (Unit {0}) PrinterFault → Type 0
 Printed rule before older number pieces text (Ok _) = (rule .admits (before ++ joined pieces) ≡ true) × (text ≡ before ++ joined pieces)
 Printed rule before older number pieces text (Err f) = (length (kept (rule .admits) before (joined pieces)) < length (joined pieces)) × (f ≡ cut-fault rule before older number pieces) × (text ≡ before ++ kept (rule .admits) before (joined pieces))
+
+-- All tokens pass that may: their pieces are written, and the printer holds the others back; or the sink cuts the pieces.
+abbrev pub Passes : Bool → ℕ → LayoutPen → List Token → ℕ → List ℕ → Rule → List ℕ → ℕ → List ℕ → Printer → Result (Unit {0}) PrinterFault → Type 0
+Passes over m pen h number out rule before older text p (Ok u) = Printed rule before older number (pass over m pen h .pieces) text (Ok u) × Prints m (pass over m pen h .pen) (pass over m pen h .held) (number + length (pass over m pen h .pieces)) (out ++ joined (pass over m pen h .pieces)) p
+Passes over m pen h number out rule before older text p (Err f) = Printed rule before older number (pass over m pen h .pieces) text (Err f)

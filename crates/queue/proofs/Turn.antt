@@ -5,7 +5,7 @@ use lib.ListN.{length, getD, set, take, drop}
 use mathlib.Core.List.{List, [], _∷_, _++_}
 use mathlib.Core.Logic.{_≢_, ⊎-elim}
 use mathlib.Core.Path.{_≡_, refl, sym, _∙_, ap}
-use Rattle.std.proofs.shelf.Lists.{getD-read, getD-set-other, getD-set-same, getD-take, length-append, length-drop, length-push, length-set, length-take, nil-from-length, places, same-lists, take-all, take-more, take-more-set}
+use Rattle.std.proofs.shelf.Lists.{getD-drop, getD-read, getD-set-other, getD-set-same, getD-take, length-append, length-drop, length-push, length-set, length-take, nil-from-length, places, same-lists, take-all, take-more, take-more-set}
 use Rattle.std.proofs.shelf.Tests.{cases-eq}
 use Rattle.std.proofs.shelf.Ways.{tells}
 use Rattle.std.specs.Options.{Cases as BySome}
@@ -24,6 +24,9 @@ slot-apart n h i k a b ne e = grind (arith, tells)
 
 slot-next : (n h at i : ℕ) → at ≡ slot n h 0 → suc i < n → slot n (at + 1) i ≡ slot n h (suc i)
 slot-next n h at i s l = grind (arith, tells)
+
+slot-on : (n h k i : ℕ) → k + i < n → slot n (slot n h k) i ≡ slot n h (k + i)
+slot-on n h k i l = grind (arith, tells)
 
 -- Turned lists.
 
@@ -138,6 +141,41 @@ module _ {X : Type 0} (xs : List X) (ring : Ring) where
     each (suc i) d b =
         getD-held xs ring (suc i) d b ∙ ap (λ (j : ℕ). getD xs j d) (sym (slot-next (length xs) (ring .head) at i s (omega (arith, n))))
         ∙ sym (getD-held xs next i d (omega (arith, n, m)))
+
+  pub held-runs : (n k j at m : ℕ) (before behind : List X) → k ≡ length (held xs ring) → j ≡ min n k → at ≡ min (ring .head) (length xs) → before ≡ take at xs → behind ≡ drop at xs → m ≡ min j (length behind) → take m behind ++ take (j - m) before ≡ take n (held xs ring)
+  held-runs n k j at m before behind e ej ea eb ed em = same-lists _ _ (omega (arith, long, length-take n (held xs ring))) each where
+    p : length before ≡ min at (length xs)
+    p = ap length eb ∙ length-take at xs
+
+    q : length behind ≡ length xs - at
+    q = ap length ed ∙ length-drop at xs
+
+    long : length (take m behind ++ take (j - m) before) ≡ j
+    long = simp (length-append, length-take) (omega (arith, p, q, length-held xs ring))
+
+    each : (i : ℕ) (d : X) → i < length (take m behind ++ take (j - m) before) → getD (take m behind ++ take (j - m) before) i d ≡ getD (take n (held xs ring)) i d
+    each i d b =
+        let h = getD-held xs ring i d (omega (arith, long)) in
+        let f = ap (λ (ys : List X). getD ys (i - m) d) eb in
+        let g = ap (λ (ys : List X). getD ys i d) ed in
+        grind (arith, places, tells, p, q, long, length-held xs ring)
+
+  pub held-drop : (n k at left : ℕ) → k ≡ length (held xs ring) → (n < k → at ≡ slot (length xs) (ring .head) n) → left ≡ k - n → held xs (record { head = at; len = left }) ≡ drop n (held xs ring)
+  held-drop n k at left e s f = same-lists _ _ (omega (arith, m, p, length-drop n (held xs ring))) each where
+    next : Ring
+    next = record { head = at; len = left }
+
+    m : length (held xs ring) ≡ min (ring .len) (length xs)
+    m = length-held xs ring
+
+    p : length (held xs next) ≡ min left (length xs)
+    p = length-held xs next
+
+    each : (i : ℕ) (d : X) → i < length (held xs next) → getD (held xs next) i d ≡ getD (drop n (held xs ring)) i d
+    each i d b =
+        getD-held xs next i d b ∙ ap (λ (h : ℕ). getD xs (slot (length xs) h i) d) (s (omega (arith, p)))
+        ∙ ap (λ (j : ℕ). getD xs j d) (slot-on (length xs) (ring .head) n i (omega (arith, m, p)))
+        ∙ sym (getD-held xs ring (n + i) d (omega (arith, m, p))) ∙ sym (getD-drop n (held xs ring) i d)
 
   pub held-none : 0 ≡ length (held xs ring) → held xs ring ≡ []
   held-none e = nil-from-length (held xs ring) (sym e)

@@ -96,6 +96,18 @@ pub fn pop_front<T: Copy>(slots: &[T], ring: &mut Ring) -> Option<T>
     Some(slots[at])
 }
 
+/// Takes the first `n` elements off, or all where there are fewer.
+pub fn drop_front<T: Copy>(slots: &[T], ring: &mut Ring, n: usize)
+    ensures holds { λ _. ⌜ held (now (slots .entry)) (now (ring .exit)) ≡ drop n (held (now (slots .entry)) (now (ring .entry))) ⌝ }
+    ensures count { λ _. ⌜ length (held (now (slots .entry)) (now (ring .exit))) ≡ length (held (now (slots .entry)) (now (ring .entry))) - n ⌝ }
+{
+    let len = count(slots, ring);
+    if n < len {
+        ring.head = place(slots.len(), ring.head, n);
+    }
+    ring.len = len.saturating_sub(n);
+}
+
 /// Takes the last element off; `None` where there is none.
 pub fn pop_back<T: Copy>(slots: &[T], ring: &mut Ring) -> Option<T>
     ensures holds { λ r. ⌜ BySome r ((held (now (slots .entry)) (now (ring .entry)) ≡ []) × (now (ring .exit) ≡ now (ring .entry))) (λ x. held (now (slots .entry)) (now (ring .entry)) ≡ held (now (slots .entry)) (now (ring .exit)) ++ x ∷ []) ⌝ }
@@ -115,6 +127,16 @@ pub fn front<T: Copy>(slots: &[T], ring: &Ring) -> Option<T>
     ensures holds { λ r. ⌜ BySome r (held (now (slots .entry)) (now (ring .entry)) ≡ []) (λ x. held (now (slots .entry)) (now (ring .entry)) ≡ x ∷ drop 1 (held (now (slots .entry)) (now (ring .entry)))) ⌝ }
 {
     get(slots, ring, 0)
+}
+
+/// The first `n` elements, or all where there are fewer, in the at most two runs in which they lie.
+pub fn front_runs<'a, T: Copy>(slots: &'a [T], ring: &Ring, n: usize) -> (&'a [T], &'a [T])
+    ensures { λ r. ⌜ now (r .0) ++ now (r .1) ≡ take n (held (now (slots .entry)) (now (ring .entry))) ⌝ }
+{
+    let n = n.min(count(slots, ring));
+    let (before, behind) = slots.split_at(ring.head.min(slots.len()));
+    let first = n.min(behind.len());
+    (&behind[..first], &before[..n - first])
 }
 
 /// The last element.

@@ -2,10 +2,10 @@
 ghost use mathlib.Core.Path.{_≡_};
 ghost use mathlib.Core.List.{List, [], _∷_, _++_};
 ghost use Prim.Native.Nat.{ℕ, suc, _+_, _<_, _≤_};
-ghost use lib.ListN.{length};
+ghost use lib.ListN.{length, take};
 ghost use Rattle.std.specs.Options.{Cases as BySome};
 ghost use Rattle.layout.specs.Tokens.{Token, widths, nest};
-ghost use Rattle.stream.specs.Recorded.{deeper};
+ghost use Rattle.stream.specs.Recorded.{deeper, texts};
 ghost use Rattle.scan.specs.Holding.{Holds};
 ghost use Rattle.scan.specs.First.{First, places-of, bytes-of, columns-of};
 use crate::scan::Scan;
@@ -33,6 +33,13 @@ impl Scan {
         ensures { λ r. ⌜ ((k d : ℕ) (h : List Token) → Holds k d h (now (self .entry)) → First h r) ⌝ }
     {
         queue::front(&self.slots, &self.slot_ring)
+    }
+
+    // The first n text bytes, in at most two runs.
+    pub fn text(&self, n: usize) -> (&[u8], &[u8])
+        ensures { λ r. ⌜ ((k d : ℕ) (h : List Token) → Holds k d h (now (self .entry)) → now (r .0) ++ now (r .1) ≡ take n (texts h)) ⌝ }
+    {
+        queue::front_runs(&self.texts, &self.text_ring, n)
     }
 
     // The first token goes.
