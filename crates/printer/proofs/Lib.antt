@@ -1,2 +1,5 @@
 pub mod Pieces
 pub mod Course
+pub mod Turns
+pub mod Writes
+pub mod Advances

@@ -5,6 +5,7 @@ use lib.ListN.{length}
 use mathlib.Core.Bool.{Bool, true, false, cond}
 use mathlib.Core.List.{List, [], _∷_, _++_}
 use mathlib.Core.Path.{_≡_}
+use Rattle.std.specs.Results.{Cases}
 use Rattle.std.specs.declared.result.Result.{Result}
 use Rattle.std.specs.declared.result.Result.the-variants.{Ok, Err}
 use Rattle.lines.specs.Lines.{newlines}
@@ -20,6 +21,7 @@ use Rattle.sink.specs.Rule.{Rule, kept}
 use Rattle.sink.specs.Fault.{Cut, fault-of}
 use Rattle.printer.specs.declared.fault.PrinterFault.{PrinterFault}
 use Rattle.printer.specs.declared.fault.PrinterFault.the-variants.{Full, Sink}
+use Rattle.printer.specs.Writing.{Wrote}
 use Rattle.printer.specs.declared.printer.passing.Turn.{Turn}
 use Rattle.printer.specs.declared.printer.passing.Turn.the-variants.{Wait, Pass}
 use Rattle.printer.specs.declared.printer.Printer.{Printer}
@@ -37,7 +39,7 @@ Plain (t ∷ ts) = (newlines (text-of t) ≡ 0) × Plain ts
 -- what it has written.
 pub record Prints (m : ℕ) (pen : LayoutPen) (held : List Token) (number : ℕ) (out : List ℕ) (p : Printer) : Type 0 where
   pub scan : Holds number (length (pen .blocks)) held (p .scan)
-  pub pen : At m pen out (p .pen)
+  pub stands : At m pen out (p .pen)
   pub passed : p .passed ≡ capped number
   pub shallow : Shallow (length (pen .blocks)) held
   pub plain : Plain held
@@ -50,22 +52,17 @@ Turned over m pen [] (Pass s f) = ⊥
 Turned over m pen (t ∷ ts) Wait = decided over m pen t ts ≡ false
 Turned over m pen (t ∷ ts) (Pass s f) = (decided over m pen t ts ≡ true) × (s ≡ shape t) × (writes m pen t f ≡ writes m pen t (fits m pen t ts)) × (after m pen t f ≡ after m pen t (fits m pen t ts))
 
--- A run of bytes was written behind a text: all of it, or what the rule keeps of it, with the fault.
-abbrev pub Wrote : Rule → List ℕ → List ℕ → ℕ → List ℕ → Result (Unit {0}) SinkFault → Type 0
-Wrote rule before bytes older text (Ok _) = (rule .admits (before ++ bytes) ≡ true) × (text ≡ before ++ bytes)
-Wrote rule before bytes older text (Err f) = Cut rule before bytes older f × (text ≡ before ++ kept (rule .admits) before bytes)
-
 -- the printer has written a token's piece: the pen has moved on, and all else is as it was
 pub record Moved (m : ℕ) (pen : LayoutPen) (out : List ℕ) (p p′ : Printer) : Type 0 where
-  pub pen : At m pen out (p′ .pen)
+  pub stands : At m pen out (p′ .pen)
   pub scan : p′ .scan ≡ p .scan
   pub passed : p′ .passed ≡ p .passed
   pub older : p′ .older ≡ p .older
 
--- the same, with what stands where all of it was written
-abbrev pub Stepped : Rule → List ℕ → List ℕ → ℕ → List ℕ → Type 0 → Result (Unit {0}) SinkFault → Type 0
-Stepped rule before bytes older text Then (Ok _) = (rule .admits (before ++ bytes) ≡ true) × (text ≡ before ++ bytes) × Then
-Stepped rule before bytes older text Then (Err f) = Cut rule before bytes older f × (text ≡ before ++ kept (rule .admits) before bytes)
+-- a run was written, and where all of it was, Then holds
+pub record Stepped (rule : Rule) (before bytes : List ℕ) (older : ℕ) (text : List ℕ) (Then : Type 0) (r : Result (Unit {0}) SinkFault) : Type 0 where
+  pub wrote : Wrote rule before bytes older text r
+  pub goes : Cases r (λ _. Then) (λ _. Unit {0})
 
 -- the first of some tokens, where it is decided
 pub record Decided (over : Bool) (m : ℕ) (pen : LayoutPen) (h : List Token) : Type 0 where

@@ -1,8 +1,10 @@
 // What ends a print: too many tokens held back, or a sink that refuses.
 use sink::fault::SinkFault;
+use sink::fault::SinkFaultDebug;
+use sink::fault::SinkFaultPartialEq;
 ghost use mathlib.Core.Path.{_≡_};
-ghost use Rattle.std.specs.declared.result.Result.the-variants.{Ok, Err};
 ghost use Rattle.printer.specs.declared.fault.PrinterFault.the-variants.{Sink as SinkRefused};
+ghost use Rattle.printer.specs.Faults.{numbered};
 
 #[derive(Clone, Copy, PartialEq, Eq, Debug)]
 pub enum PrinterFault {
@@ -29,7 +31,7 @@ pub impl From<AtToken> for PrinterFault as PrinterFaultFromSink {
 
 // Adds the token's number to a fault.
 pub fn at_token(r: Result<(), SinkFault>, token: u64) -> Result<(), AtToken>
-    ensures { λ s. ⌜ elim r [ Ok _ ↦ s ≡ Ok tt | Err f ↦ s ≡ Err (record { fault = f; token = token }) ] ⌝ }
+    ensures { λ s. ⌜ s ≡ numbered token r ⌝ }
 {
     match r {
         Ok(()) => Ok(()),

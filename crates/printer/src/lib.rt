@@ -5,3 +5,4 @@
 // costs constant time over all tokens together.
 pub mod fault;
 pub mod printer;
+mod write;

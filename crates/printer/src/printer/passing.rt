@@ -10,14 +10,15 @@ ghost use Rattle.layout.specs.Layout.{Pen as LayoutPen, writes, after};
 ghost use Rattle.layout.specs.Passing.{pass};
 ghost use Rattle.stream.specs.Recorded.{shape};
 ghost use Rattle.scan.specs.Holding.{Holds};
-ghost use Rattle.pen.specs.At.{At, bytes-of};
-ghost use Rattle.printer.specs.Printing.{Prints, Turned, Wrote, Moved, Stepped, Advanced, Passes};
+ghost use Rattle.pen.specs.At.{At};
+ghost use Rattle.printer.specs.Printing.{Prints, Turned, Moved, Stepped, Advanced, Passes};
 use crate::fault::at_token;
 use crate::fault::AtToken;
 use crate::fault::PrinterFault;
 use crate::fault::PrinterFaultFromSink;
 use crate::printer::Printer;
-use pen::breaking::Breaking;
+use crate::write::write_both;
+use crate::write::write_breaking;
 use sink::fault::SinkFault;
 use sink::sink::Sink;
 use stream::record::Extent;
@@ -109,7 +110,7 @@ impl Printer {
         ensures writes { λ r. ⌜ ((m : ℕ) (pen : LayoutPen) (bytes : List ℕ) (ts : List Token) (number : ℕ) (out : List ℕ) → Prints m pen (Text bytes ∷ ts) number out (now (self .entry)) → n ≡ length bytes → Stepped (S·Sink .rule (now (sink .entry))) (S·Sink .text (now (sink .entry))) bytes (now (self .entry) .older) (S·Sink .text (now (sink .exit))) (Moved m (record { column = pen .column + length bytes; blocks = pen .blocks }) (out ++ bytes) (now (self .entry)) (now (self .exit))) r) ⌝ }
     {
         let (first, second) = self.scan.text(n as usize);
-        sink::write::write_both(sink, self.older, first, second)?;
+        write_both(sink, self.older, first, second)?;
         self.pen.wrote(n);
         Ok(())
     }
@@ -125,17 +126,5 @@ impl Printer {
         write_breaking(sink, self.older, how)?;
         self.pen.broke(how);
         Ok(())
-    }
-}
-
-// Writes blanks, or a newline and blanks, with nothing left to decide.
-fn write_breaking<S: Sink>(sink: &mut S, older: usize, how: Breaking) -> Result<(), SinkFault>
-    ensures rule { λ _. ⌜ S·Sink .rule (now (sink .exit)) ≡ S·Sink .rule (now (sink .entry)) ⌝ }
-    ensures later { λ _. ⌜ S·Sink .later (now (sink .entry)) (now (sink .exit)) ⌝ }
-    ensures writes { λ r. ⌜ Wrote (S·Sink .rule (now (sink .entry))) (S·Sink .text (now (sink .entry))) (bytes-of how) older (S·Sink .text (now (sink .exit))) r ⌝ }
-{
-    match how {
-        Breaking::Blanks(n) => sink::write::write_blanks(sink, older, n),
-        Breaking::Line(n) => sink::write::write_line(sink, older, n),
     }
 }

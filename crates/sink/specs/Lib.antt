@@ -1,0 +1,9 @@
+pub mod Begins
+pub mod Fault
+pub mod LineLaws
+pub mod Lines
+pub mod Rows
+pub mod Rule
+pub mod SlipLaws
+pub mod WindowLaws
+pub mod WindowText
