@@ -64,13 +64,13 @@ fits-stays m pen t ts us h =
     (or-cases (reached (opens t) ts) (not (fits m pen t ts)) h)
 
 -- whether a free token fits makes no difference
-writes-free : (m : ℕ) (pen : Pen) (t : Token) (f g : Bool) → free t ≡ true → writes m pen t f ≡ writes m pen t g
+pub writes-free : (m : ℕ) (pen : Pen) (t : Token) (f g : Bool) → free t ≡ true → writes m pen t f ≡ writes m pen t g
 writes-free m pen (Text bytes) f g h = refl
 writes-free m pen (Break blanks offset) f g h = absurd (both-ways false refl h)
 writes-free m pen (Opening offset fold anchor) f g h = refl
 writes-free m pen Ending f g h = refl
 
-after-free : (m : ℕ) (pen : Pen) (t : Token) (f g : Bool) → free t ≡ true → after m pen t f ≡ after m pen t g
+pub after-free : (m : ℕ) (pen : Pen) (t : Token) (f g : Bool) → free t ≡ true → after m pen t f ≡ after m pen t g
 after-free m pen (Text bytes) f g h = refl
 after-free m pen (Break blanks offset) f g h = absurd (both-ways false refl h)
 after-free m pen (Opening offset fold anchor) f g h = absurd (both-ways false refl h)

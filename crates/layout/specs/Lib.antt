@@ -1,6 +1,7 @@
 pub mod Faults
 pub mod Margins
 pub mod Tokens
+pub mod View
 pub mod Layout
 pub mod Passing
 pub mod Writings

@@ -29,3 +29,12 @@ pub struct Block {
     pub mode: Mode,
     pub indent: u8,
 }
+
+// A token as it is handed in.
+#[derive(Clone, Copy)]
+pub enum Token<'a> {
+    Text(&'a [u8]),
+    Break { blanks: u8, offset: i8 },
+    Opening { offset: i8, fold: Fold, anchor: Anchor },
+    Ending,
+}

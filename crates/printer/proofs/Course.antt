@@ -103,3 +103,7 @@ all-passed over m pen h number out rule before older i p text s l =
     let none : s .left ≡ [] = nil-from-length (s .left) (omega arith) in
     let is : pass over m (s .at) (s .left) ≡ record { pieces = []; pen = s .at; held = s .left } = ap (pass over m (s .at)) none ∙ ap (λ (ts : List Token). record { pieces = []; pen = s .at; held = ts }) (sym none) in
     stops over m pen h number out rule before older i p text s p text is refl (s .prints)
+
+-- the same with the older length from before
+pub passes-as : (over : Bool) (m : ℕ) (pen : LayoutPen) (h : List Token) (number : ℕ) (out : List ℕ) (rule : Rule) (before : List ℕ) (older older′ : ℕ) (text : List ℕ) (p : Printer) (r : Result (Unit {0}) PrinterFault) → older ≡ older′ → Passes over m pen h number out rule before older text p r → Passes over m pen h number out rule before older′ text p r
+passes-as over m pen h number out rule before older older′ text p r e ps = subst (λ (n : ℕ). Passes over m pen h number out rule before n text p r) e ps

@@ -3,3 +3,5 @@ pub mod Course
 pub mod Turns
 pub mod Writes
 pub mod Advances
+pub mod Holding
+pub mod Ending

@@ -1,3 +1,4 @@
 pub mod Faults
 pub mod Writing
 pub mod Printing
+pub mod Giving

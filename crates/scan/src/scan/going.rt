@@ -16,7 +16,8 @@ use stream::record::Slot;
 impl Scan {
     // How many tokens are held.
     pub fn count(&self) -> usize
-        ensures { λ r. ⌜ ((k d : ℕ) (h : List Token) → Holds k d h (now (self .entry)) → r ≡ length h) ⌝ }
+        ensures value { λ r. ⌜ ((k d : ℕ) (h : List Token) → Holds k d h (now (self .entry)) → r ≡ length h) ⌝ }
+        ensures most { λ r. ⌜ r ≤ 384 ⌝ }
     {
         queue::count(&self.slots, &self.slot_ring)
     }

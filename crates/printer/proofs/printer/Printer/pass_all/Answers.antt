@@ -1,9 +1,12 @@
 use native.Mathlib.Omega.{arith}
-use Prim.Native.Nat.{ℕ}
-use mathlib.Core.Bool.{Bool}
+use Prim.Native.Nat.{ℕ, _+_}
+use lib.ListN.{length}
+use mathlib.Core.Bool.{Bool, true, false}
+use mathlib.Core.List.{_++_}
 use mathlib.Core.Path.{_≡_, refl, sym, ap, subst, _∙_}
 use Rattle.std.specs.declared.result.Result.the-variants.{Ok, Err}
 use Rattle.std.proofs.shelf.Results.{err-from-errBy}
+use Rattle.layout.specs.Layout.{joined}
 use Rattle.printer.proofs.Course.{Sofar, begins, goes-on, stops, cuts, advanced-as, all-passed}
 use Rattle.printer.proofs.printer.Printer.pass_all.Needs as need
 
@@ -26,8 +29,8 @@ returns-in-Break-pass-first g c =
       older = e .older ∙ i .2;
       passes = λ m pen h number out pr.
         let so = i .3 m pen h number out pr in
-        cuts (c .args .over) m pen h number out (k .rule s) (k .text s) (c .args .self .now .older) _ _ _ so (k .laws .beginnings s) _ _ _
-          (advanced-as _ _ _ _ _ _ _ _ _ _ _ _ _ _ _ (i .0) (i .2) refl (e .passes m (so .at) (so .left) _ _ (so .prints))) })
+        cuts (c .args .over) m pen h number out (k .rule s) (k .text s) (c .args .self .now .older) _ _ _ so (k .laws .beginnings s) (c .pass-first .last .self) _ _
+          (advanced-as (c .args .over) m (so .at) (so .left) (number + length (so .done)) (out ++ joined (so .done)) (k .rule (c .loop .sink)) (k .rule s) (k .text (c .loop .sink)) (c .loop .self .older) (c .args .self .now .older) (k .text (c .pass-first .last .sink)) (c .pass-first .last .self) (Err (c .in-Break-pass-first .field-0 .0)) (Err (c .in-Break-pass-first .field-0 .0)) (i .0) (i .2) refl (e .passes m (so .at) (so .left) _ _ (so .prints))) })
 
 pub returns-then-not-branch : need.returns-then-not-branch
 returns-then-not-branch g c =
@@ -41,7 +44,7 @@ returns-then-not-branch g c =
       older = e .older ∙ i .2;
       passes = λ m pen h number out pr.
         let so = i .3 m pen h number out pr in
-        let a = advanced-as _ _ _ _ _ _ _ _ _ _ _ _ _ _ _ (i .0) (i .2) (ap (λ (b : Bool). Ok b) (c .if-not-branch .taken)) (e .passes m (so .at) (so .left) _ _ (so .prints)) in
+        let a = advanced-as (c .args .over) m (so .at) (so .left) (number + length (so .done)) (out ++ joined (so .done)) (k .rule (c .loop .sink)) (k .rule s) (k .text (c .loop .sink)) (c .loop .self .older) (c .args .self .now .older) (k .text (c .pass-first .last .sink)) (c .pass-first .last .self) (Ok (c .in-Continue-pass-first .field-0)) (Ok false) (i .0) (i .2) (ap (λ (b : Bool). Ok b) (c .if-not-branch .taken)) (e .passes m (so .at) (so .left) _ _ (so .prints)) in
         stops (c .args .over) m pen h number out (k .rule s) (k .text s) (c .args .self .now .older) _ _ _ so _ _ (a .0) (a .1) (a .2) }
 
 pub loop-again : need.loop-again
@@ -55,8 +58,8 @@ loop-again g c =
     , e .older ∙ i .2
     , λ m pen h number out pr.
         let so = i .3 m pen h number out pr in
-        goes-on (c .args .over) m pen h number out (k .rule s) (k .text s) (c .args .self .now .older) _ _ _ so _ _
-          (advanced-as _ _ _ _ _ _ _ _ _ _ _ _ _ _ _ (i .0) (i .2) (ap (λ (b : Bool). Ok b) (c .if-not-branch .left)) (e .passes m (so .at) (so .left) _ _ (so .prints))))
+        goes-on (c .args .over) m pen h number out (k .rule s) (k .text s) (c .args .self .now .older) _ _ _ so (c .pass-first .last .self) _
+          (advanced-as (c .args .over) m (so .at) (so .left) (number + length (so .done)) (out ++ joined (so .done)) (k .rule (c .loop .sink)) (k .rule s) (k .text (c .loop .sink)) (c .loop .self .older) (c .args .self .now .older) (k .text (c .pass-first .last .sink)) (c .pass-first .last .self) (Ok (c .in-Continue-pass-first .field-0)) (Ok true) (i .0) (i .2) (ap (λ (b : Bool). Ok b) (c .if-not-branch .left)) (e .passes m (so .at) (so .left) _ _ (so .prints))))
 
 pub returns : need.returns
 returns g c =
@@ -68,5 +71,5 @@ returns g c =
       later = i .1;
       older = i .2;
       passes = λ m pen h number out pr.
-        let n = c .count-held .ensures _ _ h (pr .scan) in
+        let n = c .count-held .ensures .value _ _ h (pr .scan) in
         all-passed (c .args .over) m pen h number out (k .rule s) (k .text s) (c .args .self .now .older) _ _ _ (i .3 m pen h number out pr) (omega (arith, c .loop-test .left)) }
