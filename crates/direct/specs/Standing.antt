@@ -1,0 +1,78 @@
+-- Where a job stands after a list of calls.
+use Prim.Native.Nat.{ℕ, _≤_}
+use lib.ListN.{length, take}
+use mathlib.Core.Bool.{true}
+use mathlib.Core.List.{List, [], _∷_, _++_, reverse}
+use mathlib.Core.Path.{_≡_}
+use Rattle.std.specs.declared.option.Option.{Option}
+use Rattle.std.specs.declared.option.Option.the-variants.{Some, None}
+use Rattle.std.specs.declared.result.Result.{Result}
+use Rattle.std.specs.declared.result.Result.the-variants.{Ok, Err}
+use Rattle.layout.specs.Tokens.{Token, Text, Break, Opening, Ending}
+use Rattle.layout.specs.Passing.{so-far, written, held-back}
+use Rattle.sink.specs.Rule.{Rule}
+use Rattle.printer.specs.declared.printer.Printer.{Printer}
+use Rattle.printer.specs.Printing.{Prints}
+use Rattle.direct.specs.declared.fault.DirectFault.{DirectFault}
+use Rattle.direct.specs.declared.job.DirectJob.{DirectJob}
+use Rattle.direct.specs.Calls.{Call, opened}
+use Rattle.direct.specs.Course.{Start, Course, going, broken, course, laid, after-laying}
+
+-- a job as plain values: its sink's text and rule, its printer, its number, its count of tokens, the numbers of its open blocks, and its fault
+pub record Seen : Type 0 where
+  pub text : List ℕ
+  pub rule : Rule
+  pub printer : Printer
+  pub job : ℕ
+  pub given : ℕ
+  pub blocks : List ℕ
+  pub fault : Option DirectFault
+
+abbrev pub seen : {S : Type 0} → (S → List ℕ) → (S → Rule) → DirectJob S → Seen
+seen text rule j =
+    record { text = text (j .sink); rule = rule (j .sink); printer = j .printer; job = j .number; given = j .given; blocks = reverse (take (j .depth) (j .blocks)); fault = j .fault }
+
+-- with a text the rule admits each beginning of it
+abbrev pub Beginnings : Rule → Type 0
+Beginnings rule = (xs ys : List ℕ) → rule .admits (xs ++ ys) ≡ true → rule .admits xs ≡ true
+
+-- what no call changes
+pub record Opened (s : Start) (v : Seen) : Type 0 where
+  pub least : 16 ≤ s .margin
+  pub most : s .margin ≤ 120
+  pub beginnings : Beginnings (s .rule)
+  pub held : s .rule .admits (s .older) ≡ true
+  pub rule : v .rule ≡ s .rule
+  pub job : v .job ≡ s .job
+  pub older : v .printer .older ≡ length (s .older)
+
+-- a job that goes on, with the tokens ts: it has written what the layout has, passing all it may
+pub record Goes (s : Start) (ts : List Token) (v : Seen) : Type 0 where
+  pub unbroken : v .fault ≡ None
+  pub text : v .text ≡ s .older ++ written (s .margin) ts
+  pub prints : Prints (s .margin) (so-far (s .margin) ts .pen) (held-back (s .margin) ts) (length (so-far (s .margin) ts .pieces)) (written (s .margin) ts) (v .printer)
+  pub given : v .given ≡ length ts
+
+-- a broken job
+pub record Broke (s : Start) (f : DirectFault) (text : List ℕ) (v : Seen) : Type 0 where
+  pub fault : v .fault ≡ Some f
+  pub stands : v .text ≡ s .older ++ text
+
+abbrev pub By : Start → Course → Seen → Type 0
+By s (going ts) v = Goes s ts v × (v .blocks ≡ opened ts)
+By s (broken f text) v = Broke s f text v
+
+-- the job was opened there, and these calls were made
+pub record Stands (s : Start) (calls : List Call) (v : Seen) : Type 0 where
+  pub opened : Opened s v
+  pub by : By s (course s calls) v
+
+-- a token was laid out behind ts: the table of open blocks is still as it was
+abbrev pub Laid : Start → Course → Seen → Seen → Type 0
+Laid s (going ts) before v = Goes s ts v × (v .blocks ≡ before .blocks)
+Laid s (broken f text) before v = Broke s f text v
+
+-- a token was laid out behind ts, or broke the job
+abbrev pub Lay : Start → List Token → Token → Seen → Result (Unit {0}) DirectFault → Type 0
+Lay s ts t v (Ok u) = (laid s ts t ≡ going (ts ++ t ∷ [])) × Goes s (ts ++ t ∷ []) v
+Lay s ts t v (Err f) = (text : List ℕ) × (laid s ts t ≡ broken f text) × (v .text ≡ s .older ++ text)

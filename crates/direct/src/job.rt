@@ -1,0 +1,31 @@
+// A direct job that is open, and one that is drained. Neither can be let go: an open job is drained,
+// and a drained one hands its sink back.
+ghost use mathlib.Core.Path.{_≡_};
+ghost use Prim.Native.Nat.{_≤_};
+ghost use lib.ListN.{length};
+use crate::fault::DirectFault;
+use crate::outcome::Outcome;
+use printer::printer::Printer;
+
+pub mod laying;
+pub mod calls;
+
+pub struct DirectJob<S> {
+    sink: S,
+    printer: Printer,
+    number: u32,
+    // tokens given
+    given: u32,
+    // the token numbers of the open blocks' Openings, the innermost last
+    blocks: [u32; 64],
+    depth: usize,
+    fault: Option<DirectFault>,
+    ghost full: { length blocks ≡ 64 },
+    ghost deep: { depth ≤ 64 },
+    ghost few: { given ≤ 1000000 },
+}
+
+pub struct Drained<S> {
+    sink: S,
+    outcome: Outcome,
+}
