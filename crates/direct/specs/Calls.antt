@@ -15,17 +15,17 @@ use Rattle.direct.specs.declared.fault.DirectFault.the-variants.{Tokens, Range
 
 -- a call: its token, and with an Ending the receipt's job and token number
 pub data Call : Type 0 where
-  text : List ℕ → Call
-  breaking : ℕ → ℤ → Call
-  opening : ℤ → Fold → Anchor → Call
-  ending : ℕ → ℕ → Call
+  text-call : List ℕ → Call
+  break-call : ℕ → ℤ → Call
+  opening-call : ℤ → Fold → Anchor → Call
+  ending-call : ℕ → ℕ → Call
 
 -- the token that it hands in
-abbrev pub token : Call → Token
-token (text bytes) = Text bytes
-token (breaking blanks offset) = Break blanks offset
-token (opening offset fold anchor) = Opening offset fold anchor
-token (ending job number) = Ending
+abbrev pub call-token : Call → Token
+call-token (text-call bytes) = Text bytes
+call-token (break-call blanks offset) = Break blanks offset
+call-token (opening-call offset fold anchor) = Opening offset fold anchor
+call-token (ending-call job number) = Ending
 
 -- every byte is 0x20 or more
 abbrev pub printable : List ℕ → Bool
@@ -39,10 +39,10 @@ near (negsuc n) = leb n 15
 
 -- the call's numbers are in range
 abbrev pub in-range : Call → Bool
-in-range (text bytes) = leb 1 (length bytes) && (leb (length bytes) 255 && printable bytes)
-in-range (breaking blanks offset) = leb blanks 8 && near offset
-in-range (opening offset fold anchor) = near offset
-in-range (ending job number) = true
+in-range (text-call bytes) = leb 1 (length bytes) && (leb (length bytes) 255 && printable bytes)
+in-range (break-call blanks offset) = leb blanks 8 && near offset
+in-range (opening-call offset fold anchor) = near offset
+in-range (ending-call job number) = true
 
 -- the token numbers of the Openings of the blocks that are open after `ts`, the innermost first, where the first of `ts` has number k and the blocks bs are open before
 abbrev pub without-first : List ℕ → List ℕ
@@ -66,17 +66,17 @@ meets (b ∷ bs) own job number = eqb job own && eqb number b
 
 -- does the call's receipt, if it takes one, meet the innermost open block?
 abbrev pub met : ℕ → List Token → Call → Bool
-met own ts (text bytes) = true
-met own ts (breaking blanks offset) = true
-met own ts (opening offset fold anchor) = true
-met own ts (ending job number) = meets (opened ts) own job number
+met own ts (text-call bytes) = true
+met own ts (break-call blanks offset) = true
+met own ts (opening-call offset fold anchor) = true
+met own ts (ending-call job number) = meets (opened ts) own job number
 
 -- is there a block more to be had for the call?
 abbrev pub shallow-enough : List Token → Call → Bool
-shallow-enough ts (text bytes) = true
-shallow-enough ts (breaking blanks offset) = true
-shallow-enough ts (opening offset fold anchor) = leb (length (opened ts)) 63
-shallow-enough ts (ending job number) = true
+shallow-enough ts (text-call bytes) = true
+shallow-enough ts (break-call blanks offset) = true
+shallow-enough ts (opening-call offset fold anchor) = leb (length (opened ts)) 63
+shallow-enough ts (ending-call job number) = true
 
 -- the refusal of a call behind the tokens `ts` of the job of that number, by 2, 8, 9 and 5 in this order; the refused token's number is the count of tokens
 abbrev pub refusal : ℕ → List Token → Call → Option DirectFault

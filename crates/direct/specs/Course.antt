@@ -20,7 +20,7 @@ use Rattle.direct.specs.declared.fault.DirectFault.{DirectFault}
 use Rattle.direct.specs.declared.fault.DirectFault.the-variants.{Tokens, Range, Receipt, Blocks, Unended, Printing}
 use Rattle.direct.specs.declared.outcome.Outcome.{Outcome}
 use Rattle.direct.specs.declared.outcome.Outcome.the-variants.{Whole, Fault}
-use Rattle.direct.specs.Calls.{Call, token, opened, refusal}
+use Rattle.direct.specs.Calls.{Call, call-token, opened, refusal}
 
 -- where a job opens: its number, its margin, its sink's rule and the older text in its sink
 pub record Start : Type 0 where
@@ -64,7 +64,7 @@ refused s ts (Printing f) = going ts
 
 abbrev pub taken-or : Start → List Token → Call → Option DirectFault → Course
 taken-or s ts c (Some f) = refused s ts f
-taken-or s ts c None = laid s ts (token c)
+taken-or s ts c None = laid s ts (call-token c)
 
 -- one call more; a broken job stays as it is
 abbrev pub step : Start → Course → Call → Course
@@ -78,7 +78,7 @@ after-laying (broken f text) = Err f
 
 abbrev pub answer-or : Start → List Token → Call → Option DirectFault → Result (Unit {0}) DirectFault
 answer-or s ts c (Some f) = Err f
-answer-or s ts c None = after-laying (laid s ts (token c))
+answer-or s ts c None = after-laying (laid s ts (call-token c))
 
 abbrev pub answer : Start → Course → Call → Result (Unit {0}) DirectFault
 answer s (going ts) c = answer-or s ts c (refusal (s .job) ts c)

@@ -1,5 +1,5 @@
 -- Where a job stands after a list of calls.
-use Prim.Native.Nat.{ℕ, _≤_}
+use Prim.Native.Nat.{ℕ, _≤_, _<_}
 use lib.ListN.{length, take}
 use mathlib.Core.Bool.{true}
 use mathlib.Core.List.{List, [], _∷_, _++_, reverse}
@@ -14,9 +14,11 @@ use Rattle.sink.specs.Rule.{Rule}
 use Rattle.printer.specs.declared.printer.Printer.{Printer}
 use Rattle.printer.specs.Printing.{Prints}
 use Rattle.direct.specs.declared.fault.DirectFault.{DirectFault}
+use Rattle.direct.specs.declared.fault.DirectFault.the-variants.{Tokens, Range, Receipt as ReceiptFault, Blocks, Unended, Printing}
+use Rattle.direct.specs.declared.receipt.Receipt.{Receipt}
 use Rattle.direct.specs.declared.job.DirectJob.{DirectJob}
-use Rattle.direct.specs.Calls.{Call, opened}
-use Rattle.direct.specs.Course.{Start, Course, going, broken, course, laid, after-laying}
+use Rattle.direct.specs.Calls.{Call, text-call, break-call, opening-call, ending-call, opened}
+use Rattle.direct.specs.Course.{Start, Course, going, broken, course, laid, answer, after-laying}
 
 -- a job as plain values: its sink's text and rule, its printer, its number, its count of tokens, the numbers of its open blocks, and its fault
 pub record Seen : Type 0 where
@@ -76,3 +78,41 @@ Laid s (broken f text) before v = Broke s f text v
 abbrev pub Lay : Start → List Token → Token → Seen → Result (Unit {0}) DirectFault → Type 0
 Lay s ts t v (Ok u) = (laid s ts t ≡ going (ts ++ t ∷ [])) × Goes s (ts ++ t ∷ []) v
 Lay s ts t v (Err f) = (text : List ℕ) × (laid s ts t ≡ broken f text) × (v .text ≡ s .older ++ text)
+
+-- the fault of a job
+abbrev pub fault-of : Course → Option DirectFault
+fault-of (going ts) = None
+fault-of (broken f text) = Some f
+
+-- a call may be made; or, whatever it is, it is refused
+abbrev pub Ready : Start → List Call → Seen → Result (Unit {0}) DirectFault → Type 0
+Ready s calls v (Ok u) = (ts : List Token) × (course s calls ≡ going ts) × (length ts < 1000000) × Opened s v × Goes s ts v × (v .blocks ≡ opened ts)
+Ready s calls v (Err f) = (c : Call) → Stands s (calls ++ c ∷ []) v × (Err f ≡ answer s (course s calls) c)
+
+-- a Text or a Break
+abbrev pub Plain-call : Call → Type 0
+Plain-call (text-call bytes) = Unit {0}
+Plain-call (break-call blanks offset) = Unit {0}
+Plain-call (opening-call offset fold anchor) = ⊥
+Plain-call (ending-call job number) = ⊥
+
+-- P where the job was broken before the call, or the call was refused before its token was laid out
+abbrev pub Idle : Option DirectFault → Result (Unit {0}) DirectFault → Type 0 → Type 0
+Idle (Some f) r P = P
+Idle None (Ok u) P = Unit {0}
+Idle None (Err (Tokens n)) P = P
+Idle None (Err (Range n)) P = P
+Idle None (Err (ReceiptFault n)) P = P
+Idle None (Err (Blocks n)) P = P
+Idle None (Err (Unended n)) P = P
+Idle None (Err (Printing f)) P = Unit {0}
+
+-- the count of tokens of a job that goes on
+abbrev pub count-of : Course → ℕ
+count-of (going ts) = length ts
+count-of (broken f text) = 0
+
+-- what an Opening gives: the receipt with the job's number and its own token number, or the refusal
+abbrev pub Received : Start → Course → Result (Unit {0}) DirectFault → Result Receipt DirectFault → Type 0
+Received s at answered (Ok r) = (answered ≡ Ok tt) × (r .job ≡ s .job) × (r .token ≡ count-of at)
+Received s at answered (Err f) = answered ≡ Err f

@@ -7,7 +7,9 @@ use crate::fault::DirectFault;
 use crate::outcome::Outcome;
 use printer::printer::Printer;
 
+pub mod draining;
 pub mod laying;
+mod ranges;
 pub mod calls;
 
 pub struct DirectJob<S> {

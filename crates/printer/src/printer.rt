@@ -3,6 +3,7 @@
 use pen::pen::Pen;
 use scan::scan::Scan;
 
+pub mod asking;
 pub mod giving;
 pub mod passing;
 

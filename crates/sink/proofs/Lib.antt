@@ -1,5 +1,4 @@
 pub mod Kept
-mod Pushes
 pub mod Runs
 mod Slips
 pub mod Windows

@@ -1,7 +1,6 @@
 pub mod Begins
 pub mod Fault
-pub mod LineLaws
-pub mod Lines
+pub mod Fits
 pub mod Rows
 pub mod Rule
 pub mod SlipLaws

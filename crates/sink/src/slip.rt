@@ -5,7 +5,7 @@ ghost use mathlib.Core.List.{[], map};
 ghost use mathlib.Core.Path.{_≡_};
 ghost use Prim.Native.Nat.{_+_, _≤_};
 ghost use lib.ListN.{length, take};
-ghost use Rattle.sink.specs.Lines.{lines, longest};
+ghost use Rattle.lines.specs.Lines.{lines, widest};
 ghost use Rattle.sink.specs.Rows.{line, textOn};
 use crate::row::Row;
 pub use filling::SlipSink;
@@ -24,7 +24,7 @@ pub struct Slip {
     len: usize,
     ghost row: { at ≤ 15 },
     ghost split: { lines (textOn rows at) ≡ map line (take (at + 1) rows) },
-    ghost narrow: { longest (lines (textOn rows at)) ≤ 40 },
+    ghost narrow: { widest (textOn rows at) ≤ 40 },
     ghost size: { length (textOn rows at) ≡ len },
 }
 

@@ -5,7 +5,7 @@ ghost use mathlib.Core.Path.{_≡_};
 ghost use Prim.Native.Nat.{_<_, _≤_};
 ghost use lib.ListN.{length, getD};
 ghost use Rattle.std.specs.Options.{Cases as BySome};
-ghost use Rattle.sink.specs.Lines.{lines};
+ghost use Rattle.lines.specs.Lines.{lines};
 ghost use Rattle.sink.specs.SlipLaws.{textOf};
 use super::Slip;
 
