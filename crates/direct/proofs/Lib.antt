@@ -1,2 +1,4 @@
 pub mod Passings
 pub mod Lays
+pub mod Tables
+pub mod Steps

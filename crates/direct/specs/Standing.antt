@@ -17,7 +17,7 @@ use Rattle.direct.specs.declared.fault.DirectFault.{DirectFault}
 use Rattle.direct.specs.declared.fault.DirectFault.the-variants.{Tokens, Range, Receipt as ReceiptFault, Blocks, Unended, Printing}
 use Rattle.direct.specs.declared.receipt.Receipt.{Receipt}
 use Rattle.direct.specs.declared.job.DirectJob.{DirectJob}
-use Rattle.direct.specs.Calls.{Call, text-call, break-call, opening-call, ending-call, opened}
+use Rattle.direct.specs.Calls.{Call, text-call, break-call, opening-call, ending-call, opened, refusal}
 use Rattle.direct.specs.Course.{Start, Course, going, broken, course, laid, answer, after-laying}
 
 -- a job as plain values: its sink's text and rule, its printer, its number, its count of tokens, the numbers of its open blocks, and its fault
@@ -84,10 +84,25 @@ abbrev pub fault-of : Course → Option DirectFault
 fault-of (going ts) = None
 fault-of (broken f text) = Some f
 
+-- Same where the job was broken before the call, or the call was refused before its token was laid out
+abbrev pub quiet-or : Option DirectFault → Type 0 → Type 0
+quiet-or (Some f) Same = Same
+quiet-or None Same = Unit {0}
+
+abbrev pub Quiet : Start → Course → Call → Type 0 → Type 0
+Quiet s (going ts) c Same = quiet-or (refusal (s .job) ts c) Same
+Quiet s (broken f text) c Same = Same
+
+-- a call was made: where the job stands then, what it answered, and that the sink is the Same where no token was laid out
+pub record Called (s : Start) (calls : List Call) (c : Call) (v : Seen) (r : Result (Unit {0}) DirectFault) (Same : Type 0) : Type 0 where
+  pub stands : Stands s (calls ++ c ∷ []) v
+  pub answers : r ≡ answer s (course s calls) c
+  pub quiet : Quiet s (course s calls) c Same
+
 -- a call may be made; or, whatever it is, it is refused
-abbrev pub Ready : Start → List Call → Seen → Result (Unit {0}) DirectFault → Type 0
-Ready s calls v (Ok u) = (ts : List Token) × (course s calls ≡ going ts) × (length ts < 1000000) × Opened s v × Goes s ts v × (v .blocks ≡ opened ts)
-Ready s calls v (Err f) = (c : Call) → Stands s (calls ++ c ∷ []) v × (Err f ≡ answer s (course s calls) c)
+abbrev pub Ready : Start → List Call → Seen → Type 0 → Result (Unit {0}) DirectFault → Type 0
+Ready s calls v Same (Ok u) = (ts : List Token) × (course s calls ≡ going ts) × (length ts < 1000000) × Opened s v × Goes s ts v × (v .blocks ≡ opened ts)
+Ready s calls v Same (Err f) = (c : Call) → Called s calls c v (Err f) Same
 
 -- a Text or a Break
 abbrev pub Plain-call : Call → Type 0
@@ -95,17 +110,6 @@ Plain-call (text-call bytes) = Unit {0}
 Plain-call (break-call blanks offset) = Unit {0}
 Plain-call (opening-call offset fold anchor) = ⊥
 Plain-call (ending-call job number) = ⊥
-
--- P where the job was broken before the call, or the call was refused before its token was laid out
-abbrev pub Idle : Option DirectFault → Result (Unit {0}) DirectFault → Type 0 → Type 0
-Idle (Some f) r P = P
-Idle None (Ok u) P = Unit {0}
-Idle None (Err (Tokens n)) P = P
-Idle None (Err (Range n)) P = P
-Idle None (Err (ReceiptFault n)) P = P
-Idle None (Err (Blocks n)) P = P
-Idle None (Err (Unended n)) P = P
-Idle None (Err (Printing f)) P = Unit {0}
 
 -- the count of tokens of a job that goes on
 abbrev pub count-of : Course → ℕ

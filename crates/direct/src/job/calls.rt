@@ -5,11 +5,11 @@ ghost use mathlib.Core.List.{List, [], _∷_, _++_};
 ghost use mathlib.Core.Bool.{true, false};
 ghost use Prim.Native.Nat.{ℕ, _≤_, _<_};
 ghost use lib.ListN.{length};
-ghost use Rattle.layout.specs.Tokens.{Token as LayoutToken};
+ghost use Rattle.layout.specs.Tokens.{Token as LayoutToken, Break, Opening, Ending};
 ghost use Rattle.layout.specs.View.{view};
-ghost use Rattle.direct.specs.Calls.{Call, call-token, in-range, text-call, break-call, opening-call, ending-call};
+ghost use Rattle.direct.specs.Calls.{Call, call-token, in-range, meets, text-call, break-call, opening-call, ending-call};
 ghost use Rattle.direct.specs.Course.{Start, course, answer, standing};
-ghost use Rattle.direct.specs.Standing.{seen, Stands, Ready, Plain-call, Idle, Received, fault-of};
+ghost use Rattle.direct.specs.Standing.{seen, Stands, Called, Ready, Plain-call, Received, fault-of};
 use crate::fault::DirectFault;
 use crate::job::DirectJob;
 use crate::job::ranges::is_break;
@@ -44,8 +44,7 @@ impl<S: Sink> DirectJob<S> {
     // Hands in a Text.
     pub fn text(&mut self, bytes: &[u8]) -> Result<(), DirectFault>
         ensures later { λ _. ⌜ S·Sink .later (now (self .entry) .sink) (now (self .exit) .sink) ⌝ }
-        ensures idle { λ r. ⌜ Idle (now (self .entry) .fault) r (now (self .exit) .sink ≡ now (self .entry) .sink) ⌝ }
-        ensures stands { λ r. ⌜ ((s : Start) (calls : List Call) → Stands s calls (seen (S·Sink .text) (S·Sink .rule) (now (self .entry))) → Stands s (calls ++ text-call (now (bytes .entry)) ∷ []) (seen (S·Sink .text) (S·Sink .rule) (now (self .exit))) × (r ≡ answer s (course s calls) (text-call (now (bytes .entry))))) ⌝ }
+        ensures stands { λ r. ⌜ ((s : Start) (calls : List Call) → Stands s calls (seen (S·Sink .text) (S·Sink .rule) (now (self .entry))) → Called s calls (text-call (now (bytes .entry))) (seen (S·Sink .text) (S·Sink .rule) (now (self .exit))) r (now (self .exit) .sink ≡ now (self .entry) .sink)) ⌝ }
     {
         self.put(Token::Text(bytes), is_text(bytes))
     }
@@ -53,17 +52,15 @@ impl<S: Sink> DirectJob<S> {
     // Hands in a Break.
     pub fn break_at(&mut self, blanks: u8, offset: i8) -> Result<(), DirectFault>
         ensures later { λ _. ⌜ S·Sink .later (now (self .entry) .sink) (now (self .exit) .sink) ⌝ }
-        ensures idle { λ r. ⌜ Idle (now (self .entry) .fault) r (now (self .exit) .sink ≡ now (self .entry) .sink) ⌝ }
-        ensures stands { λ r. ⌜ ((s : Start) (calls : List Call) → Stands s calls (seen (S·Sink .text) (S·Sink .rule) (now (self .entry))) → Stands s (calls ++ break-call blanks offset ∷ []) (seen (S·Sink .text) (S·Sink .rule) (now (self .exit))) × (r ≡ answer s (course s calls) (break-call blanks offset))) ⌝ }
+        ensures stands { λ r. ⌜ ((s : Start) (calls : List Call) → Stands s calls (seen (S·Sink .text) (S·Sink .rule) (now (self .entry))) → Called s calls (break-call blanks offset) (seen (S·Sink .text) (S·Sink .rule) (now (self .exit))) r (now (self .exit) .sink ≡ now (self .entry) .sink)) ⌝ }
     {
-        let token = Token::Break { blanks, offset };
-        self.put(token, is_break(blanks, offset))
+        self.put(a_break(blanks, offset), is_break(blanks, offset))
     }
 
     // Hands in an Opening, and gives the receipt of its block.
     pub fn open_block(&mut self, offset: i8, fold: Fold, anchor: Anchor) -> Result<Receipt, DirectFault>
         ensures later { λ _. ⌜ S·Sink .later (now (self .entry) .sink) (now (self .exit) .sink) ⌝ }
-        ensures stands { λ r. ⌜ ((s : Start) (calls : List Call) → Stands s calls (seen (S·Sink .text) (S·Sink .rule) (now (self .entry))) → Stands s (calls ++ opening-call offset fold anchor ∷ []) (seen (S·Sink .text) (S·Sink .rule) (now (self .exit))) × Received s (course s calls) (answer s (course s calls) (opening-call offset fold anchor)) r) ⌝ }
+        ensures stands { λ r. ⌜ ((s : Start) (calls : List Call) → Stands s calls (seen (S·Sink .text) (S·Sink .rule) (now (self .entry))) → Called s calls (opening-call offset fold anchor) (seen (S·Sink .text) (S·Sink .rule) (now (self .exit))) (answer s (course s calls) (opening-call offset fold anchor)) (now (self .exit) .sink ≡ now (self .entry) .sink) × Received s (course s calls) (answer s (course s calls) (opening-call offset fold anchor)) r) ⌝ }
     {
         self.ready()?;
         if !is_near(offset) {
@@ -73,7 +70,7 @@ impl<S: Sink> DirectJob<S> {
             return Err(DirectFault::Blocks { token: self.given as u64 });
         }
         let number = self.given;
-        self.take(Token::Opening { offset, fold, anchor })?;
+        self.take(an_opening(offset, fold, anchor))?;
         self.blocks[self.depth] = number;
         self.depth += 1;
         Ok(Receipt { job: self.number, token: number })
@@ -82,7 +79,7 @@ impl<S: Sink> DirectJob<S> {
     // Hands in an Ending, and takes the receipt of its block, refused or not.
     pub fn end_block(&mut self, receipt: Receipt) -> Result<(), DirectFault>
         ensures later { λ _. ⌜ S·Sink .later (now (self .entry) .sink) (now (self .exit) .sink) ⌝ }
-        ensures stands { λ r. ⌜ ((s : Start) (calls : List Call) → Stands s calls (seen (S·Sink .text) (S·Sink .rule) (now (self .entry))) → Stands s (calls ++ ending-call (receipt .job) (receipt .token) ∷ []) (seen (S·Sink .text) (S·Sink .rule) (now (self .exit))) × (r ≡ answer s (course s calls) (ending-call (receipt .job) (receipt .token)))) ⌝ }
+        ensures stands { λ r. ⌜ ((s : Start) (calls : List Call) → Stands s calls (seen (S·Sink .text) (S·Sink .rule) (now (self .entry))) → Called s calls (ending-call (receipt .job) (receipt .token)) (seen (S·Sink .text) (S·Sink .rule) (now (self .exit))) r (now (self .exit) .sink ≡ now (self .entry) .sink)) ⌝ }
     {
         let Receipt { job, token } = receipt;
         self.ready()?;
@@ -91,8 +88,7 @@ impl<S: Sink> DirectJob<S> {
             self.fault = Some(fault);
             return Err(fault);
         }
-        let token = Token::Ending;
-        self.take(token)?;
+        self.take(an_ending())?;
         self.depth = self.depth.saturating_sub(1);
         Ok(())
     }
@@ -114,8 +110,7 @@ impl<S: Sink> DirectJob<S> {
     // Hands in a Text or a Break, given whether it is in range.
     fn put(&mut self, token: Token<'_>, fits: bool) -> Result<(), DirectFault>
         ensures later { λ _. ⌜ S·Sink .later (now (self .entry) .sink) (now (self .exit) .sink) ⌝ }
-        ensures idle { λ r. ⌜ Idle (now (self .entry) .fault) r (now (self .exit) .sink ≡ now (self .entry) .sink) ⌝ }
-        ensures stands { λ r. ⌜ ((s : Start) (calls : List Call) (c : Call) → Stands s calls (seen (S·Sink .text) (S·Sink .rule) (now (self .entry))) → call-token c ≡ view (token .entry) → in-range c ≡ fits → Plain-call c → Stands s (calls ++ c ∷ []) (seen (S·Sink .text) (S·Sink .rule) (now (self .exit))) × (r ≡ answer s (course s calls) c)) ⌝ }
+        ensures stands { λ r. ⌜ ((s : Start) (calls : List Call) (c : Call) → Stands s calls (seen (S·Sink .text) (S·Sink .rule) (now (self .entry))) → call-token c ≡ view (token .entry) → in-range c ≡ fits → Plain-call c → Called s calls c (seen (S·Sink .text) (S·Sink .rule) (now (self .exit))) r (now (self .exit) .sink ≡ now (self .entry) .sink)) ⌝ }
     {
         self.ready()?;
         if !fits {
@@ -127,7 +122,7 @@ impl<S: Sink> DirectJob<S> {
     // Goes the job on, and is there a token more to be had for it?
     fn ready(&mut self) -> Result<(), DirectFault>
         ensures sink { λ _. ⌜ now (self .exit) .sink ≡ now (self .entry) .sink ⌝ }
-        ensures stands { λ r. ⌜ ((s : Start) (calls : List Call) → Stands s calls (seen (S·Sink .text) (S·Sink .rule) (now (self .entry))) → Ready s calls (seen (S·Sink .text) (S·Sink .rule) (now (self .exit))) r) ⌝ }
+        ensures stands { λ r. ⌜ ((s : Start) (calls : List Call) → Stands s calls (seen (S·Sink .text) (S·Sink .rule) (now (self .entry))) → Ready s calls (seen (S·Sink .text) (S·Sink .rule) (now (self .exit))) (now (self .exit) .sink ≡ now (self .entry) .sink) r) ⌝ }
     {
         if let Some(fault) = self.fault {
             return Err(fault);
@@ -142,7 +137,33 @@ impl<S: Sink> DirectJob<S> {
 
     // Are these the numbers of the job and of the innermost open block?
     fn meets(&self, job: u32, token: u32) -> bool
+        ensures { λ r. ⌜ r ≡ meets (seen (S·Sink .text) (S·Sink .rule) (now (self .entry)) .blocks) (now (self .entry) .number) job token ⌝ }
     {
-        self.depth > 0 && job == self.number && token == self.blocks[self.depth - 1]
+        if self.depth == 0 {
+            return false;
+        }
+        if job != self.number {
+            return false;
+        }
+        token == self.blocks[self.depth - 1]
     }
+}
+
+// The tokens without bytes.
+fn a_break(blanks: u8, offset: i8) -> Token<'static>
+    ensures { λ r. ⌜ view r ≡ Break blanks offset ⌝ }
+{
+    Token::Break { blanks, offset }
+}
+
+fn an_opening(offset: i8, fold: Fold, anchor: Anchor) -> Token<'static>
+    ensures { λ r. ⌜ view r ≡ Opening offset fold anchor ⌝ }
+{
+    Token::Opening { offset, fold, anchor }
+}
+
+fn an_ending() -> Token<'static>
+    ensures { λ r. ⌜ view r ≡ Ending ⌝ }
+{
+    Token::Ending
 }
