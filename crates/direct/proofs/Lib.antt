@@ -2,3 +2,4 @@ pub mod Passings
 pub mod Lays
 pub mod Tables
 pub mod Steps
+pub mod Drains

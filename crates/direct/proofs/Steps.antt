@@ -53,7 +53,7 @@ ready-broken s calls v f Same st e k c =
     stands-next s calls c v (Err f) Same (course s calls) refl (st .opened) (b .0) (b .1) (b .2)
 
 -- which course an unbroken job is on
-going-by : (s : Start) (at : Course) (v : Seen) → By s at v → v .fault ≡ None → (ts : List Token) × (at ≡ going ts) × By s (going ts) v
+pub going-by : (s : Start) (at : Course) (v : Seen) → By s at v → v .fault ≡ None → (ts : List Token) × (at ≡ going ts) × By s (going ts) v
 going-by s (going ts) v b e = (ts, refl, b)
 going-by s (broken g w) v b e = let z : _≡_ {A = ℕ} 0 1 = cc (e, b .fault) in absurd (omega arith)
 

@@ -16,9 +16,11 @@ use Rattle.printer.specs.Printing.{Prints}
 use Rattle.direct.specs.declared.fault.DirectFault.{DirectFault}
 use Rattle.direct.specs.declared.fault.DirectFault.the-variants.{Tokens, Range, Receipt as ReceiptFault, Blocks, Unended, Printing}
 use Rattle.direct.specs.declared.receipt.Receipt.{Receipt}
+use Rattle.direct.specs.declared.outcome.Outcome.{Outcome}
+use Rattle.direct.specs.declared.outcome.Outcome.the-variants.{Fault}
 use Rattle.direct.specs.declared.job.DirectJob.{DirectJob}
 use Rattle.direct.specs.Calls.{Call, text-call, break-call, opening-call, ending-call, opened, refusal}
-use Rattle.direct.specs.Course.{Start, Course, going, broken, course, laid, answer, after-laying}
+use Rattle.direct.specs.Course.{Start, Course, going, broken, course, laid, answer, after-laying, outcome, left}
 
 -- a job as plain values: its sink's text and rule, its printer, its number, its count of tokens, the numbers of its open blocks, and its fault
 pub record Seen : Type 0 where
@@ -120,3 +122,8 @@ count-of (broken f text) = 0
 abbrev pub Received : Start → Course → Result (Unit {0}) DirectFault → Result Receipt DirectFault → Type 0
 Received s at answered (Ok r) = (answered ≡ Ok tt) × (r .job ≡ s .job) × (r .token ≡ count-of at)
 Received s at answered (Err f) = answered ≡ Err f
+
+-- a drain: what the job came to, and the text that stands then
+abbrev pub Closed : Start → Course → List ℕ → Result Outcome DirectFault → Type 0
+Closed s at text (Ok o) = (o ≡ outcome s at) × (text ≡ s .older ++ left s at)
+Closed s at text (Err f) = (Fault f ≡ outcome s at) × (text ≡ s .older ++ left s at)
