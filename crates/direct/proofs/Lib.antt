@@ -3,3 +3,4 @@ pub mod Lays
 pub mod Tables
 pub mod Steps
 pub mod Drains
+pub mod Wholes
