@@ -65,9 +65,10 @@ last-as s ts v text pen r o g f =
 -- a block is open
 pub drain-open : (s : Start) (ts : List Token) (v : Seen) (n : ℕ) → Goes s ts v → 0 < length (opened ts) → n ≡ length ts → Closed s (going ts) (v .text) (Err (Unended n))
 drain-open s ts v n g l e =
-    let no = ne-eqb (length (opened ts)) 0 (omega arith) in
-    ( ap (λ (k : ℕ). Fault (Unended k)) e ∙ sym (cond-false (eqb (length (opened ts)) 0) _ _ no)
-    , g .text ∙ ap (λ (xs : List ℕ). s .older ++ xs) (sym (cond-false (eqb (length (opened ts)) 0) _ _ no)))
+    let no = ne-eqb (length (opened ts)) 0 (omega arith) in (
+      ap (λ (k : ℕ). Fault (Unended k)) e ∙ sym (cond-false (eqb (length (opened ts)) 0) _ _ no),
+      g .text ∙ ap (λ (xs : List ℕ). s .older ++ xs) (sym (cond-false (eqb (length (opened ts)) 0) _ _ no)),
+    )
 
 -- the print is whole
 pub drain-whole : (s : Start) (ts : List Token) (v : Seen) (text : List ℕ) (pen : Pen) (bytes : ℕ) → Opened s v → Goes s ts v → length (opened ts) ≡ 0 → Last s ts v text pen (Ok tt) → length text < 2 ^ 64 → bytes ≡ length text - length (s .older) → Closed s (going ts) text (Ok (Whole bytes (pen .newlines) (pen .widest)))
@@ -86,10 +87,11 @@ drain-whole s ts v text pen bytes o g z f small b =
     let few = newlines-most (layout m ts) in
     let nl : pen .newlines ≡ newlines (layout m ts) = at .newlines ∙ (ap (λ (xs : List ℕ). min (newlines xs) (2 ^ 64 - 1)) out ∙ omega arith) in
     let wd : pen .widest ≡ min (widest (layout m ts)) 65535 = at .widest ∙ ap (λ (xs : List ℕ). min (widest xs) 65535) out in
-    let by : bytes ≡ length (layout m ts) = omega arith in
-    ( ap (λ (k : ℕ). Whole k (pen .newlines) (pen .widest)) by ∙ (ap (λ (k : ℕ). Whole (length (layout m ts)) k (pen .widest)) nl ∙ (ap (λ (k : ℕ). Whole (length (layout m ts)) (newlines (layout m ts)) k) wd
-      ∙ sym (cond-true (eqb (length (opened ts)) 0) _ _ yes ∙ cond-true (s .rule .admits (s .older ++ layout m ts)) _ _ fit)))
-    , stands ∙ sym (ap (λ (xs : List ℕ). s .older ++ xs) (cond-true (eqb (length (opened ts)) 0) _ _ yes ∙ kept-all (s .rule .admits) (o .beginnings) (s .older) (layout m ts) fit)))
+    let by : bytes ≡ length (layout m ts) = omega arith in (
+      ap (λ (k : ℕ). Whole k (pen .newlines) (pen .widest)) by ∙ (ap (λ (k : ℕ). Whole (length (layout m ts)) k (pen .widest)) nl ∙ (ap (λ (k : ℕ). Whole (length (layout m ts)) (newlines (layout m ts)) k) wd
+          ∙ sym (cond-true (eqb (length (opened ts)) 0) _ _ yes ∙ cond-true (s .rule .admits (s .older ++ layout m ts)) _ _ fit))),
+      stands ∙ sym (ap (λ (xs : List ℕ). s .older ++ xs) (cond-true (eqb (length (opened ts)) 0) _ _ yes ∙ kept-all (s .rule .admits) (o .beginnings) (s .older) (layout m ts) fit)),
+    )
 
 -- the sink cuts the print
 pub drain-cut : (s : Start) (ts : List Token) (v : Seen) (text : List ℕ) (pen : Pen) (f : PrinterFault) → Opened s v → Goes s ts v → length (opened ts) ≡ 0 → s .rule .admits (s .older ++ written (s .margin) ts) ≡ true → Last s ts v text pen (Err f) → Closed s (going ts) text (Err (Printing f))
@@ -101,9 +103,10 @@ drain-cut s ts v text pen f o g z fits l =
     let here = printed-cut (s .rule) (o .beginnings) (s .older) (length (s .older)) 0 (length ps) ps LP (s .older ++ written m ts) text f fits refl (omega arith) fin in
     let pr : Printed (s .rule) (s .older) (length (s .older)) 0 (print-pieces m ts) text (Err f) = subst (λ (qs : List (List ℕ)). Printed (s .rule) (s .older) (length (s .older)) 0 qs text (Err f)) (sym (print-join m ts)) here in
     let over = kept-over (s .rule .admits) (o .beginnings) (s .older) (layout m ts) (pr .0) in
-    let yes = eq-eqb (length (opened ts)) 0 z in
-    ( ap (λ (x : PrinterFault). Fault (Printing x)) (pr .1) ∙ sym (cond-true (eqb (length (opened ts)) 0) _ _ yes ∙ cond-false (s .rule .admits (s .older ++ layout m ts)) _ _ over)
-    , pr .2 ∙ ap (λ (xs : List ℕ). s .older ++ xs) (sym (cond-true (eqb (length (opened ts)) 0) _ _ yes)))
+    let yes = eq-eqb (length (opened ts)) 0 z in (
+      ap (λ (x : PrinterFault). Fault (Printing x)) (pr .1) ∙ sym (cond-true (eqb (length (opened ts)) 0) _ _ yes ∙ cond-false (s .rule .admits (s .older ++ layout m ts)) _ _ over),
+      pr .2 ∙ ap (λ (xs : List ℕ). s .older ++ xs) (sym (cond-true (eqb (length (opened ts)) 0) _ _ yes)),
+    )
 
 -- a broken job
 pub drain-broken : (s : Start) (at : Course) (v : Seen) (f : DirectFault) → By s at v → v .fault ≡ Some f → Closed s at (v .text) (Err f)

@@ -49,8 +49,8 @@ more-pieces m ts t = ap (λ (p : Passed). p .pieces) (passing-joins false m star
 given-as : (m : ℕ) (pen : Pen) (h : List Token) (number : ℕ) (out : List ℕ) (t : Token) (rule rule′ : Rule) (before before′ : List ℕ) (older older′ : ℕ) (text : List ℕ) (p : Printer) (Same : Type 0) (r : Result (Unit {0}) PrinterFault) → rule ≡ rule′ → before ≡ before′ → older ≡ older′ → Given m pen h number out t rule before older text p Same r → Given m pen h number out t rule′ before′ older′ text p Same r
 given-as m pen h number out t rule rule′ before before′ older older′ text p Same r a b c g =
     subst (λ (x : Rule). Given m pen h number out t x before′ older′ text p Same r) a
-      (subst (λ (x : List ℕ). Given m pen h number out t rule x older′ text p Same r) b
-        (subst (λ (x : ℕ). Given m pen h number out t rule before x text p Same r) c g))
+    (subst (λ (x : List ℕ). Given m pen h number out t rule x older′ text p Same r) b
+    (subst (λ (x : ℕ). Given m pen h number out t rule before x text p Same r) c g))
 
 -- what the printer's answer was given for
 abbrev pub Answered : Start → List Token → Token → Seen → Seen → Type 0 → Result (Unit {0}) PrinterFault → Type 0
@@ -78,9 +78,10 @@ lay-ok s ts t v v′ Same o g a ef eg =
     let Q : Passed → Type 0 = λ q. Prints m (q .pen) (q .held) (length (q .pieces)) (joined (q .pieces)) (v′ .printer) in
     let count : length ps + length (P .pieces) ≡ length (ps ++ P .pieces) = sym (length-append ps (P .pieces)) in
     let outs : written m ts ++ joined (P .pieces) ≡ joined (ps ++ P .pieces) = sym (joined-append ps (P .pieces)) in
-    let now : Q (onto ps P) = subst (λ (k : ℕ). Prints m (P .pen) (P .held) k (joined (ps ++ P .pieces)) (v′ .printer)) count (subst (λ (xs : List ℕ). Prints m (P .pen) (P .held) (length ps + length (P .pieces)) xs (v′ .printer)) outs (b .1 .1)) in
-    ( room-left s ts t (b .0) ∙ cond-true _ _ _ fit
-    , record { unbroken = ef ∙ g .unbroken; text = b .1 .0 .1 ∙ sym whole; prints = subst Q (sym joins) now; given = omega arith })
+    let now : Q (onto ps P) = subst (λ (k : ℕ). Prints m (P .pen) (P .held) k (joined (ps ++ P .pieces)) (v′ .printer)) count (subst (λ (xs : List ℕ). Prints m (P .pen) (P .held) (length ps + length (P .pieces)) xs (v′ .printer)) outs (b .1 .1)) in (
+      room-left s ts t (b .0) ∙ cond-true _ _ _ fit,
+      record { unbroken = ef ∙ g .unbroken; text = b .1 .0 .1 ∙ sym whole; prints = subst Q (sym joins) now; given = omega arith },
+    )
 
 -- there is no room
 pub lay-full : (s : Start) (ts : List Token) (t : Token) (v v′ : Seen) (Same : Type 0) (k : ℕ) → Opened s v → Goes s ts v → Answered s ts t v v′ Same (Err (Full k)) → (Same → v′ .text ≡ v .text) → length ts ≤ 1000000 → Lay s ts t v′ (Err (Printing (Full k)))
@@ -89,10 +90,11 @@ lay-full s ts t v v′ Same k o g a same few =
     let b = answered-as s ts t v v′ Same (Err (Full k)) o g a in
     let c = pass-count false m start ts in
     let l = b .0 in
-    let e : k ≡ length ts = b .1 ∙ omega arith in
-    ( written m ts
-    , cond-true (leb 384 (length (held-back m ts))) _ _ (le-leb 384 _ (omega arith)) ∙ ap (λ (n : ℕ). broken (Printing (Full n)) (written m ts)) (sym e)
-    , same (b .2) ∙ g .text)
+    let e : k ≡ length ts = b .1 ∙ omega arith in (
+      written m ts,
+      cond-true (leb 384 (length (held-back m ts))) _ _ (le-leb 384 _ (omega arith)) ∙ ap (λ (n : ℕ). broken (Printing (Full n)) (written m ts)) (sym e),
+      same (b .2) ∙ g .text,
+    )
 
 -- the sink cuts what passes
 pub lay-cut : (s : Start) (ts : List Token) (t : Token) (v v′ : Seen) (Same : Type 0) (f : _) (k : ℕ) → Opened s v → Goes s ts v → s .rule .admits (s .older ++ written (s .margin) ts) ≡ true → Answered s ts t v v′ Same (Err (Sink f k)) → Lay s ts t v′ (Err (Printing (Sink f k)))
@@ -104,10 +106,11 @@ lay-cut s ts t v v′ Same f k o g fits a =
     let b = answered-as s ts t v v′ Same (Err (Sink f k)) o g a in
     let here = printed-cut (s .rule) (o .beginnings) (s .older) (length (s .older)) 0 (length ps) ps (P .pieces) (s .older ++ written m ts) (v′ .text) (Sink f k) fits refl (omega arith) (b .1) in
     let pr : Printed (s .rule) (s .older) (length (s .older)) 0 all (v′ .text) (Err (Sink f k)) = subst (λ (qs : List (List ℕ)). Printed (s .rule) (s .older) (length (s .older)) 0 qs (v′ .text) (Err (Sink f k))) (sym (more-pieces m ts t)) here in
-    let over = kept-over (s .rule .admits) (o .beginnings) (s .older) (joined all) (pr .0) in
-    ( kept-of s all
-    , room-left s ts t (b .0) ∙ (cond-false _ _ _ over ∙ ap (λ (x : PrinterFault). broken (Printing x) (kept-of s all)) (sym (pr .1)))
-    , pr .2)
+    let over = kept-over (s .rule .admits) (o .beginnings) (s .older) (joined all) (pr .0) in (
+      kept-of s all,
+      room-left s ts t (b .0) ∙ (cond-false _ _ _ over ∙ ap (λ (x : PrinterFault). broken (Printing x) (kept-of s all)) (sym (pr .1))),
+      pr .2,
+    )
 
 pub lay-err : (s : Start) (ts : List Token) (t : Token) (v v′ : Seen) (Same : Type 0) (f : PrinterFault) → Opened s v → Goes s ts v → s .rule .admits (s .older ++ written (s .margin) ts) ≡ true → Answered s ts t v v′ Same (Err f) → (Same → v′ .text ≡ v .text) → length ts ≤ 1000000 → Lay s ts t v′ (Err (Printing f))
 lay-err s ts t v v′ Same (Full k) o g fits a same few = lay-full s ts t v v′ Same k o g a same few

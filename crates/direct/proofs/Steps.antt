@@ -40,7 +40,8 @@ stands-next s calls c v r Same at e o b q k =
     record {
       stands = record { opened = o; by = subst (λ (x : Course). By s x v) (sym (course-push s calls c ∙ ap (λ (x : Course). step s x c) e)) b };
       answers = q ∙ ap (λ (x : Course). answer s x c) (sym e);
-      quiet = subst (λ (x : Course). Quiet s x c Same) (sym e) k }
+      quiet = subst (λ (x : Course). Quiet s x c Same) (sym e) k;
+    }
 
 -- a broken job answers its fault
 broken-by : (s : Start) (at : Course) (c : Call) (v : Seen) (f : DirectFault) (Same : Type 0) → By s at v → v .fault ≡ Some f → Same → By s (step s at c) v × (_≡_ {A = Result (Unit {0}) DirectFault} (Err f) (answer s at c)) × Quiet s at c Same
@@ -91,25 +92,25 @@ ready-tokens s calls v v′ Same st e l o t f k c =
     let q = refused-tokens (s .job) ts c (omega arith) in
     let b : Broke s (Tokens (length ts)) (written (s .margin) ts) v′ = record { fault = f ∙ ap (λ (k : ℕ). Some (Tokens k)) n; stands = t ∙ g .2 .0 .text } in
     stands-next s calls c v′ (Err (Tokens (v .given))) Same (going ts) (g .1) o
-      (subst (λ (x : Option DirectFault). By s (taken-or s ts c x) v′) (sym q) b)
-      (ap (λ (i : ℕ). Err (Tokens i)) n ∙ ap (answer-or s ts c) (sym q))
-      (subst (λ (x : Option DirectFault). quiet-or x Same) (sym q) k)
+    (subst (λ (x : Option DirectFault). By s (taken-or s ts c x) v′) (sym q) b)
+    (ap (λ (i : ℕ). Err (Tokens i)) n ∙ ap (answer-or s ts c) (sym q))
+    (subst (λ (x : Option DirectFault). quiet-or x Same) (sym q) k)
 
 -- a refusal before the token is laid out
 pub next-refused : (s : Start) (calls : List Call) (c : Call) (v : Seen) (ts : List Token) (f g : DirectFault) (Same : Type 0) → course s calls ≡ going ts → Opened s v → refusal (s .job) ts c ≡ Some f → By s (taken-or s ts c (Some f)) v → g ≡ f → Same → Called s calls c v (Err g) Same
 next-refused s calls c v ts f g Same e o q b h k =
     stands-next s calls c v (Err g) Same (going ts) e o
-      (subst (λ (x : Option DirectFault). By s (taken-or s ts c x) v) (sym q) b)
-      (ap (λ (x : DirectFault). Err x) h ∙ ap (answer-or s ts c) (sym q))
-      (subst (λ (x : Option DirectFault). quiet-or x Same) (sym q) k)
+    (subst (λ (x : Option DirectFault). By s (taken-or s ts c x) v) (sym q) b)
+    (ap (λ (x : DirectFault). Err x) h ∙ ap (answer-or s ts c) (sym q))
+    (subst (λ (x : Option DirectFault). quiet-or x Same) (sym q) k)
 
 -- no refusal: the token was laid out
 pub next-laid : (s : Start) (calls : List Call) (c : Call) (v : Seen) (ts : List Token) (t : Token) (r : Result (Unit {0}) DirectFault) (Same : Type 0) → course s calls ≡ going ts → Opened s v → refusal (s .job) ts c ≡ None → call-token c ≡ t → By s (laid s ts t) v → r ≡ after-laying (laid s ts t) → Called s calls c v r Same
 next-laid s calls c v ts t r Same e o q h b a =
     stands-next s calls c v r Same (going ts) e o
-      (subst (λ (x : Option DirectFault). By s (taken-or s ts c x) v) (sym q) (subst (λ (x : Token). By s (laid s ts x) v) (sym h) b))
-      (a ∙ (ap (λ (x : Token). after-laying (laid s ts x)) (sym h) ∙ ap (answer-or s ts c) (sym q)))
-      (subst (λ (x : Option DirectFault). quiet-or x Same) (sym q) tt)
+    (subst (λ (x : Option DirectFault). By s (taken-or s ts c x) v) (sym q) (subst (λ (x : Token). By s (laid s ts x) v) (sym h) b))
+    (a ∙ (ap (λ (x : Token). after-laying (laid s ts x)) (sym h) ∙ ap (answer-or s ts c) (sym q)))
+    (subst (λ (x : Option DirectFault). quiet-or x Same) (sym q) tt)
 
 -- what a laid token may come to
 laid-cases : (s : Start) (ts : List Token) (t : Token) → ((f : DirectFault) × (w : List ℕ) × (laid s ts t ≡ broken f w)) ⊎ (laid s ts t ≡ going (ts ++ t ∷ []))

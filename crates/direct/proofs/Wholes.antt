@@ -80,9 +80,9 @@ step-went s ts c None cs us e =
     ⊎-elim
     (λ f. absurd (apart _ _ us (sym (stays-broken s _ _ cs) ∙ (ap (λ (x : Course). course-from s x cs) (sym (cond-true (leb 384 (length (held-back (s .margin) ts))) _ _ f)) ∙ e))))
     (λ f. ⊎-elim
-      (λ a. record { next = cond-false _ _ _ f ∙ cond-true _ _ _ a; kept = refl; room = lt-ltb _ 384 (leb-false 384 _ f) })
-      (λ a. absurd (apart _ _ us (sym (stays-broken s _ _ cs) ∙ (ap (λ (x : Course). course-from s x cs) (sym (cond-false _ _ _ f ∙ cond-false (s .rule .admits (s .older ++ written (s .margin) (ts ++ call-token c ∷ []))) _ _ a)) ∙ e))))
-      (cases-bool (s .rule .admits (s .older ++ written (s .margin) (ts ++ call-token c ∷ [])))))
+    (λ a. record { next = cond-false _ _ _ f ∙ cond-true _ _ _ a; kept = refl; room = lt-ltb _ 384 (leb-false 384 _ f) })
+    (λ a. absurd (apart _ _ us (sym (stays-broken s _ _ cs) ∙ (ap (λ (x : Course). course-from s x cs) (sym (cond-false _ _ _ f ∙ cond-false (s .rule .admits (s .older ++ written (s .margin) (ts ++ call-token c ∷ []))) _ _ a)) ∙ e))))
+    (cases-bool (s .rule .admits (s .older ++ written (s .margin) (ts ++ call-token c ∷ [])))))
     (cases-bool (leb 384 (length (held-back (s .margin) ts))))
 step-went s ts c (Some (Tokens n)) cs us e = absurd (apart _ _ us (sym (stays-broken s _ _ cs) ∙ e))
 step-went s ts c (Some (Range n)) cs us e = record { next = refl; kept = refl; room = refl }
@@ -111,9 +111,9 @@ whole-course s (broken f w) i = absurd i
 whole-course s (going us) i =
     ⊎-elim
     (λ z. ⊎-elim
-      (λ a. (us, refl, nil-from-length (opened us) (eqb-true _ 0 z), a))
-      (λ a. absurd (subst Is-whole (cond-true (eqb (length (opened us)) 0) _ _ z ∙ cond-false (s .rule .admits (s .older ++ layout (s .margin) us)) _ _ a) i))
-      (cases-bool (s .rule .admits (s .older ++ layout (s .margin) us))))
+    (λ a. (us, refl, nil-from-length (opened us) (eqb-true _ 0 z), a))
+    (λ a. absurd (subst Is-whole (cond-true (eqb (length (opened us)) 0) _ _ z ∙ cond-false (s .rule .admits (s .older ++ layout (s .margin) us)) _ _ a) i))
+    (cases-bool (s .rule .admits (s .older ++ layout (s .margin) us))))
     (λ z. absurd (subst Is-whole (cond-false (eqb (length (opened us)) 0) _ _ z) i))
     (cases-bool (eqb (length (opened us)) 0))
 
@@ -121,14 +121,16 @@ pub whole-exactly : (s : Start) (calls : List Call) (o : Outcome) → Beginnings
 whole-exactly s calls o beg e =
     record {
       when = λ w.
-        let g = course-goes s beg [] calls (w .unbroken) (w .room) (w .admitted) in
-        let T = given s calls in
-        e ∙ (ap (outcome s) g ∙ (cond-true (eqb (length (opened T)) 0) _ _ (eq-eqb _ 0 (ap length (w .balanced))) ∙ cond-true (s .rule .admits (s .older ++ layout (s .margin) T)) _ _ (w .admitted)));
+          let g = course-goes s beg [] calls (w .unbroken) (w .room) (w .admitted) in
+          let T = given s calls in
+          e ∙ (ap (outcome s) g ∙ (cond-true (eqb (length (opened T)) 0) _ _ (eq-eqb _ 0 (ap length (w .balanced))) ∙ cond-true (s .rule .admits (s .older ++ layout (s .margin) T)) _ _ (w .admitted)));
       only = λ i.
-        let c = whole-course s (course s calls) (subst Is-whole e i) in
-        let l = course-led s [] calls (c .0) (c .1) in
-        record {
-          unbroken = l .unbroken;
-          balanced = ap opened (sym (l .tokens)) ∙ c .2;
-          room = l .room;
-          admitted = ap (λ (us : List Token). s .rule .admits (s .older ++ layout (s .margin) us)) (sym (l .tokens)) ∙ c .3 } }
+          let c = whole-course s (course s calls) (subst Is-whole e i) in
+          let l = course-led s [] calls (c .0) (c .1) in
+          record {
+            unbroken = l .unbroken;
+            balanced = ap opened (sym (l .tokens)) ∙ c .2;
+            room = l .room;
+            admitted = ap (λ (us : List Token). s .rule .admits (s .older ++ layout (s .margin) us)) (sym (l .tokens)) ∙ c .3;
+          };
+    }

@@ -7,10 +7,10 @@ use crate::fault::DirectFault;
 use crate::outcome::Outcome;
 use printer::printer::Printer;
 
+pub mod calls;
 pub mod draining;
 pub mod laying;
 mod ranges;
-pub mod calls;
 
 pub struct DirectJob<S> {
     sink: S,

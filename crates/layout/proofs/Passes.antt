@@ -60,7 +60,7 @@ fits-stays m pen t ts us h =
     ⊎-elim
     (λ r. let e = before-more (opens t) ts us r in ap (λ (k : ℕ). leb (pen .column + (width t + k)) m) e)
     (λ f. let g = before-grows (opens t) ts us in let d = leb-false _ _ (not-true _ f) in
-       let e : leb (pen .column + size t (ts ++ us)) m ≡ false = lt-leb _ _ (omega arith) in e ∙ sym (not-true _ f))
+    let e : leb (pen .column + size t (ts ++ us)) m ≡ false = lt-leb _ _ (omega arith) in e ∙ sym (not-true _ f))
     (or-cases (reached (opens t) ts) (not (fits m pen t ts)) h)
 
 -- whether a free token fits makes no difference
@@ -94,10 +94,11 @@ settled over m pen t ts us h =
     ⊎-elim
     (λ f. record { decides = or-right over _ (or-left (free t) _ f); writing = writes-free m pen t _ _ f; standing = after-free m pen t _ _ f })
     (λ r. let e = fits-stays m pen t ts us r in
-      record {
-        decides = or-right over _ (or-right (free t) _ (stays-decided m pen t ts us r e));
-        writing = ap (writes m pen t) e;
-        standing = ap (after m pen t) e })
+    record {
+      decides = or-right over _ (or-right (free t) _ (stays-decided m pen t ts us r e));
+      writing = ap (writes m pen t) e;
+      standing = ap (after m pen t) e;
+    })
     (or-cases (free t) _ h)
 
 pub pass-on : (over : Bool) (m : ℕ) (pen : Pen) (t : Token) (ts : List Token) → decided over m pen t ts ≡ true → pass over m pen (t ∷ ts) ≡ behind (writes m pen t (fits m pen t ts)) (pass over m (after m pen t (fits m pen t ts)) ts)
@@ -112,14 +113,14 @@ passing-joins over m pen [] us = refl
 passing-joins over m pen (t ∷ ts) us =
     ⊎-elim
     (λ h. let s = settled over m pen t ts us h in
-       let w = writes m pen t (fits m pen t ts) in
-       let next = after m pen t (fits m pen t ts) in
-       let G : Passed → Passed = λ p. onto (p .pieces) (pass over m (p .pen) (p .held ++ us)) in
-       let B : List ℕ → Pen → Passed = λ x p. behind x (pass over m p (ts ++ us)) in
-       let one : pass over m pen (t ∷ (ts ++ us)) ≡ B w next = pass-on over m pen t (ts ++ us) (s .decides) ∙ (ap (λ x. B x (after m pen t (fits m pen t (ts ++ us)))) (s .writing) ∙ ap (B w) (s .standing)) in
-       one ∙ (ap (behind w) (passing-joins over m next ts us) ∙ sym (ap G (pass-on false m pen t ts h))))
+    let w = writes m pen t (fits m pen t ts) in
+    let next = after m pen t (fits m pen t ts) in
+    let G : Passed → Passed = λ p. onto (p .pieces) (pass over m (p .pen) (p .held ++ us)) in
+    let B : List ℕ → Pen → Passed = λ x p. behind x (pass over m p (ts ++ us)) in
+    let one : pass over m pen (t ∷ (ts ++ us)) ≡ B w next = pass-on over m pen t (ts ++ us) (s .decides) ∙ (ap (λ x. B x (after m pen t (fits m pen t (ts ++ us)))) (s .writing) ∙ ap (B w) (s .standing)) in
+    one ∙ (ap (behind w) (passing-joins over m next ts us) ∙ sym (ap G (pass-on false m pen t ts h))))
     (λ h. let G : Passed → Passed = λ p. onto (p .pieces) (pass over m (p .pen) (p .held ++ us)) in
-       sym (ap G (pass-off false m pen t ts h)))
+    sym (ap G (pass-off false m pen t ts h)))
     (cases-bool (decided false m pen t ts))
 
 -- once the document has ended, everything passes
@@ -146,8 +147,8 @@ narrow m pen (t ∷ ts) =
     ⊎-elim
     (λ h. subst (Narrow m) (sym (pass-on false m pen t ts h)) (narrow m (after m pen t (fits m pen t ts)) ts))
     (λ h. let p = or-parts (free t) _ h in let q = or-parts (reached (opens t) ts) _ (p .1) in
-       let f = leb-true _ _ (not-false _ (q .1)) in let e = before-unreached (opens t) ts (q .0) in
-       subst (Narrow m) (sym (pass-off false m pen t ts h)) (inr (omega arith)))
+    let f = leb-true _ _ (not-false _ (q .1)) in let e = before-unreached (opens t) ts (q .0) in
+    subst (Narrow m) (sym (pass-off false m pen t ts h)) (inr (omega arith)))
     (cases-bool (decided false m pen t ts))
 
 pub passed-narrow : (m : ℕ) (pen : Pen) (ts : List Token) → widths (pass false m pen ts .held) ≤ m

@@ -11,11 +11,9 @@ pub fn layout_laws()
     ensures joins { λ _. ⌜ Passing-joins ⌝ }
     ensures rest { λ _. ⌜ Rest-follows ⌝ }
     ensures free { λ _. ⌜ Layout-is-free ⌝ }
-{
-}
+{}
 
 // The sample records at margin 16 are laid out as the table says.
 pub fn sample_records()
     ensures { λ _. ⌜ Records-hold ⌝ }
-{
-}
+{}

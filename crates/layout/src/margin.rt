@@ -18,7 +18,9 @@ impl Margin {
         ensures { λ r. ⌜ Cases r (λ m. (m .columns ≡ columns) × (16 ≤ columns) × (columns ≤ 120)) (λ f. (f ≡ margin-fault columns) × OutOfRange columns) ⌝ }
     {
         match columns {
-            16..=120 => Ok(Margin { columns: columns as u8 }),
+            16..=120 => Ok(Margin {
+                columns: columns as u8,
+            }),
             _ => Err(MarginFault { number: 1, columns }),
         }
     }

@@ -34,7 +34,14 @@ pub struct Block {
 #[derive(Clone, Copy)]
 pub enum Token<'a> {
     Text(&'a [u8]),
-    Break { blanks: u8, offset: i8 },
-    Opening { offset: i8, fold: Fold, anchor: Anchor },
+    Break {
+        blanks: u8,
+        offset: i8,
+    },
+    Opening {
+        offset: i8,
+        fold: Fold,
+        anchor: Anchor,
+    },
     Ending,
 }

@@ -63,12 +63,13 @@ pub advance-cut : (over : Bool) (m : ℕ) (pen : LayoutPen) (h : List Token) (nu
     → Advanced over m pen h number out rule before older text p′ (Err fault)
 advance-cut over m pen [] number out s f rule before older text p p′ r g fault tn pr st e q = absurd tn
 advance-cut over m pen (t ∷ ts) number out s f rule before older text p p′ r g fault tn pr st e q =
-    let w = subst (λ (x : Result (Unit {0}) SinkFault). Stepped rule before (writes m pen t f) older text (Moved m (after m pen t f) (out ++ writes m pen t f) p p′) x) e (st t ts pr (tn .1)) .wrote in
-    ( record { first = t; rest = ts; is = refl; decides = tn .0 }
-    , g
-    , subst (λ (xs : List ℕ). Cut rule before xs older g) (tn .2) (w .cases)
-    , w .stands ∙ ap (λ (xs : List ℕ). before ++ kept (rule .admits) before xs) (tn .2)
-    , q ∙ ap (Sink g) (pr .passed))
+    let w = subst (λ (x : Result (Unit {0}) SinkFault). Stepped rule before (writes m pen t f) older text (Moved m (after m pen t f) (out ++ writes m pen t f) p p′) x) e (st t ts pr (tn .1)) .wrote in (
+      record { first = t; rest = ts; is = refl; decides = tn .0 },
+      g,
+      subst (λ (xs : List ℕ). Cut rule before xs older g) (tn .2) (w .cases),
+      w .stands ∙ ap (λ (xs : List ℕ). before ++ kept (rule .admits) before xs) (tn .2),
+      q ∙ ap (Sink g) (pr .passed),
+    )
 
 pub advance-ok : (over : Bool) (m : ℕ) (pen : LayoutPen) (h : List Token) (number : ℕ) (out : List ℕ) (s : Held) (f : Bool) (rule : Rule) (before : List ℕ) (older : ℕ) (text : List ℕ) (p p′ p″ : Printer) (r : Result (Unit {0}) SinkFault)
     → Beginnings (rule .admits) → Turned over m pen h (Pass s f) → Prints m pen h number out p → First-stepped m pen number out s f rule before older text p p′ r → r ≡ Ok tt
@@ -83,13 +84,15 @@ advance-ok over m pen (t ∷ ts) number out s f rule before older text p p′ p�
     let d : Decided over m pen (t ∷ ts) = record { first = t; rest = ts; is = refl; decides = tn .0 } in
     let fit : rule .admits (before ++ piece d) ≡ true = ap (λ (xs : List ℕ). rule .admits (before ++ xs)) (sym (tn .2)) ∙ w .cases in
     let deep : deeper (length (pen .blocks)) t ≡ length (next d .blocks) = sym (blocks-after m pen t (fits m pen t ts)) in
-    let n = pr .passed in
-    ( d
-    , fit
-    , w .stands ∙ (ap (λ (xs : List ℕ). before ++ kept (rule .admits) before xs) (tn .2) ∙ ap (λ (xs : List ℕ). before ++ xs) (kept-all (rule .admits) beg before (piece d) fit))
-    , record {
+    let n = pr .passed in (
+      d,
+      fit,
+      w .stands ∙ (ap (λ (xs : List ℕ). before ++ kept (rule .admits) before xs) (tn .2) ∙ ap (λ (xs : List ℕ). before ++ xs) (kept-all (rule .admits) beg before (piece d) fit)),
+      record {
         scan = subst (λ (k : ℕ). Holds (suc number) k ts (p″ .scan)) deep (drop number (length (pen .blocks)) t ts (subst (λ (x : Scan). Holds number (length (pen .blocks)) (t ∷ ts) x) (sym (mv .scan)) (pr .scan)));
         stands = subst (λ (x : LayoutPen). At m x (out ++ piece d) (p″ .pen)) (tn .3) (subst (λ (xs : List ℕ). At m (after m pen t f) (out ++ xs) (p″ .pen)) (tn .2) (subst (At m (after m pen t f) (out ++ writes m pen t f)) (sym same) (mv .stands)));
         passed = omega arith;
         shallow = subst (λ (k : ℕ). Shallow k ts) deep (pr .shallow .1);
-        plain = pr .plain .1 })
+        plain = pr .plain .1;
+      },
+    )

@@ -37,12 +37,15 @@ module _ (over : Bool) (m : ℕ) (pen : LayoutPen) (h : List Token) (number : �
   pub begins : (p : Printer) → Prints m pen h number out p → rule .admits before ≡ true → Sofar 0 p before
   begins p pr a =
       record {
-        at = pen; left = h; done = [];
+        at = pen;
+        left = h;
+        done = [];
         prints = subst (λ (n : ℕ). Prints m pen h n (out ++ []) p) (omega arith) (subst (λ (xs : List ℕ). Prints m pen h number xs p) (sym (append-nil out)) pr);
         course = refl;
         is = sym (append-nil before);
         fits = ap (rule .admits) (append-nil before) ∙ a;
-        count = omega arith }
+        count = omega arith;
+      }
 
   module _ (i : ℕ) (p : Printer) (text : List ℕ) (s : Sofar i p text) where
     -- the next piece is written
@@ -58,13 +61,16 @@ module _ (over : Bool) (m : ℕ) (pen : LayoutPen) (h : List Token) (number : �
         let step : pass over m (s .at) (s .left) ≡ behind w (pass over m (next d) (d .rest)) = ap (pass over m (s .at)) (d .is) ∙ pass-on over m (s .at) (d .first) (d .rest) (d .decides) in
         let P = pass over m (next d) (d .rest) in
         record {
-          at = next d; left = d .rest; done = ps ++ w ∷ [];
+          at = next d;
+          left = d .rest;
+          done = ps ++ w ∷ [];
           prints = subst (λ (k : ℕ). Prints m (next d) (d .rest) k (out ++ joined (ps ++ w ∷ [])) p′) (omega arith)
-            (subst (λ (xs : List ℕ). Prints m (next d) (d .rest) (suc (number + length ps)) xs p′) (append-assoc out (joined ps) w ∙ ap (λ (xs : List ℕ). out ++ xs) (sym (joined-push ps w))) (a .3));
+              (subst (λ (xs : List ℕ). Prints m (next d) (d .rest) (suc (number + length ps)) xs p′) (append-assoc out (joined ps) w ∙ ap (λ (xs : List ℕ). out ++ xs) (sym (joined-push ps w))) (a .3));
           course = s .course ∙ (ap (onto ps) step ∙ ap (λ (qs : List (List ℕ)). record { pieces = qs; pen = P .pen; held = P .held }) (sym (append-assoc ps (w ∷ []) (P .pieces))));
           is = a .2 ∙ sym e;
           fits = ap (rule .admits) e ∙ a .1;
-          count = omega arith }
+          count = omega arith;
+        }
 
     -- nothing more may pass
     pub stops : (p′ : Printer) (text′ : List ℕ) → pass over m (s .at) (s .left) ≡ record { pieces = []; pen = s .at; held = s .left } → text′ ≡ text → Prints m (s .at) (s .left) (number + length (s .done)) (out ++ joined (s .done)) p′ → Passes over m pen h number out rule before older text′ p′ (Ok tt)
@@ -87,14 +93,14 @@ module _ (over : Bool) (m : ℕ) (pen : LayoutPen) (h : List Token) (number : �
         let cut : Cut rule (before ++ joined ps) w older (a .1) = subst (λ (xs : List ℕ). Cut rule xs w older (a .1)) t (a .2) in
         let stands : text′ ≡ (before ++ joined ps) ++ kept (rule .admits) (before ++ joined ps) w = a .3 ∙ ap (λ (xs : List ℕ). xs ++ kept (rule .admits) xs w) t in
         subst (λ (qs : List (List ℕ)). Printed rule before older number qs text′ (Err f)) (sym is)
-          (subst (λ (x : PrinterFault). Printed rule before older number (ps ++ w ∷ P .pieces) text′ (Err x)) (sym (a .4))
-            (cut-at rule beg before older number ps w (P .pieces) (a .1) text′ (s .fits) cut stands))
+        (subst (λ (x : PrinterFault). Printed rule before older number (ps ++ w ∷ P .pieces) text′ (Err x)) (sym (a .4))
+        (cut-at rule beg before older number ps w (P .pieces) (a .1) text′ (s .fits) cut stands))
 
 -- the same under the rule and the older length from before
 pub advanced-as : (over : Bool) (m : ℕ) (pen : LayoutPen) (h : List Token) (number : ℕ) (out : List ℕ) (rule rule′ : Rule) (before : List ℕ) (older older′ : ℕ) (text : List ℕ) (p : Printer) (r r′ : Result Bool PrinterFault) → rule ≡ rule′ → older ≡ older′ → r ≡ r′ → Advanced over m pen h number out rule before older text p r → Advanced over m pen h number out rule′ before older′ text p r′
 advanced-as over m pen h number out rule rule′ before older older′ text p r r′ e o q a =
     subst (λ (z : Result Bool PrinterFault). Advanced over m pen h number out rule′ before older′ text p z) q
-      (subst (λ (x : Rule). Advanced over m pen h number out x before older′ text p r) e (subst (λ (n : ℕ). Advanced over m pen h number out rule before n text p r) o a))
+    (subst (λ (x : Rule). Advanced over m pen h number out x before older′ text p r) e (subst (λ (n : ℕ). Advanced over m pen h number out rule before n text p r) o a))
 
 -- with as many turns as tokens, none is left
 pub all-passed : (over : Bool) (m : ℕ) (pen : LayoutPen) (h : List Token) (number : ℕ) (out : List ℕ) (rule : Rule) (before : List ℕ) (older i : ℕ) (p : Printer) (text : List ℕ) (s : Sofar over m pen h number out rule before older i p text) → length h ≤ i → Passes over m pen h number out rule before older text p (Ok tt)

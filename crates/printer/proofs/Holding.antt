@@ -63,4 +63,5 @@ held-more m pen h number out p p′ u t e pr n hold s q =
       stands = subst (At m pen out) (sym s) (pr .stands);
       passed = q ∙ pr .passed;
       shallow = shallow-push (length (pen .blocks)) h u (pr .shallow) n;
-      plain = plain-push h u (pr .plain) (plain-one (length (pen .blocks)) h u n) }
+      plain = plain-push h u (pr .plain) (plain-one (length (pen .blocks)) h u n);
+    }

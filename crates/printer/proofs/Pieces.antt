@@ -54,10 +54,11 @@ cut-at rule beg before older number ps w rest g text fits cut e =
     let same : kept p before all ≡ joined ps ++ k = ap (kept p before) mid ∙ (kept-behind p beg before (joined ps) (w ++ joined rest) fits ∙ ap (λ (xs : List ℕ). joined ps ++ xs) (kept-front p base w (joined rest) fits over)) in
     let whole : Cut rule before all older g = subst (λ (xs : List ℕ). Cut rule before xs older g) (sym mid) (cut-behind rule beg before (joined ps) (w ++ joined rest) older g fits (cut-front rule beg base w (joined rest) older g fits cut)) in
     let len : length (kept p before all) ≡ length (joined ps) + length k = ap length same ∙ length-append (joined ps) k in
-    let at : piece-at (length (kept p before all)) (ps ++ w ∷ rest) ≡ length ps = piece-behind ps w rest (length k) _ (cut .0) len in
-    ( whole .0
-    , ap (λ (n : ℕ). Sink g (capped (number + n))) (sym at) ∙ ap (λ (f : SinkFault). Sink f (capped (number + piece-at (length (kept p before all)) (ps ++ w ∷ rest)))) (whole .1)
-    , e ∙ (append-assoc before (joined ps) k ∙ ap (λ (xs : List ℕ). before ++ xs) (sym same)))
+    let at : piece-at (length (kept p before all)) (ps ++ w ∷ rest) ≡ length ps = piece-behind ps w rest (length k) _ (cut .0) len in (
+      whole .0,
+      ap (λ (n : ℕ). Sink g (capped (number + n))) (sym at) ∙ ap (λ (f : SinkFault). Sink f (capped (number + piece-at (length (kept p before all)) (ps ++ w ∷ rest)))) (whole .1),
+      e ∙ (append-assoc before (joined ps) k ∙ ap (λ (xs : List ℕ). before ++ xs) (sym same)),
+    )
 
 joined-both : (ps qs : List (List ℕ)) → joined (ps ++ qs) ≡ joined ps ++ joined qs
 joined-both ps qs = joined-append ps qs
@@ -89,10 +90,11 @@ printed-front rule beg before older number ps qs text f a pr =
     let same : kept p before (joined (ps ++ qs)) ≡ kept p before (joined ps) = ap (kept p before) both ∙ kept-front p before (joined ps) (joined qs) a over in
     let g = fault-of rule before (joined ps) older in
     let cut : Cut rule before (joined (ps ++ qs)) older g = subst (λ (xs : List ℕ). Cut rule before xs older g) (sym both) (cut-front rule beg before (joined ps) (joined qs) older g a (pr .0, refl)) in
-    let at : piece-at (length (kept p before (joined (ps ++ qs)))) (ps ++ qs) ≡ piece-at (length (kept p before (joined ps))) ps = ap (λ (xs : List ℕ). piece-at (length xs) (ps ++ qs)) same ∙ piece-front ps qs (length (kept p before (joined ps))) (pr .0) in
-    ( cut .0
-    , pr .1 ∙ (ap (λ (n : ℕ). Sink g (capped (number + n))) (sym at) ∙ ap (λ (x : SinkFault). Sink x (capped (number + piece-at (length (kept p before (joined (ps ++ qs)))) (ps ++ qs)))) (cut .1))
-    , pr .2 ∙ ap (λ (xs : List ℕ). before ++ xs) (sym same))
+    let at : piece-at (length (kept p before (joined (ps ++ qs)))) (ps ++ qs) ≡ piece-at (length (kept p before (joined ps))) ps = ap (λ (xs : List ℕ). piece-at (length xs) (ps ++ qs)) same ∙ piece-front ps qs (length (kept p before (joined ps))) (pr .0) in (
+      cut .0,
+      pr .1 ∙ (ap (λ (n : ℕ). Sink g (capped (number + n))) (sym at) ∙ ap (λ (x : SinkFault). Sink x (capped (number + piece-at (length (kept p before (joined (ps ++ qs)))) (ps ++ qs)))) (cut .1)),
+      pr .2 ∙ ap (λ (xs : List ℕ). before ++ xs) (sym same),
+    )
 
 -- the first pieces stand, and others are written behind them
 pub printed-ok : (rule : Rule) (before : List ℕ) (older number k : ℕ) (ps qs : List (List ℕ)) (text text′ : List ℕ) → text ≡ before ++ joined ps → Printed rule text older k qs text′ (Ok tt) → Printed rule before older number (ps ++ qs) text′ (Ok tt)
@@ -113,7 +115,8 @@ printed-cut rule beg before older number k ps qs text text′ f a e n pr =
     let cut : Cut rule before (joined (ps ++ qs)) older g = subst (λ (xs : List ℕ). Cut rule before xs older g) (sym both) (cut-behind rule beg before (joined ps) (joined qs) older g a (pb .0, refl)) in
     let len : length (kept p before (joined (ps ++ qs))) ≡ length (joined ps) + length rest = ap length same ∙ length-append (joined ps) rest in
     let at : piece-at (length (kept p before (joined (ps ++ qs)))) (ps ++ qs) ≡ length ps + piece-at (length rest) qs = piece-back ps qs (length rest) _ len in
-    let num : k + piece-at (length rest) qs ≡ number + piece-at (length (kept p before (joined (ps ++ qs)))) (ps ++ qs) = omega arith in
-    ( cut .0
-    , pb .1 ∙ (ap (λ (i : ℕ). Sink g (capped i)) num ∙ ap (λ (x : SinkFault). Sink x (capped (number + piece-at (length (kept p before (joined (ps ++ qs)))) (ps ++ qs)))) (cut .1))
-    , pb .2 ∙ (append-assoc before (joined ps) rest ∙ ap (λ (xs : List ℕ). before ++ xs) (sym same)))
+    let num : k + piece-at (length rest) qs ≡ number + piece-at (length (kept p before (joined (ps ++ qs)))) (ps ++ qs) = omega arith in (
+      cut .0,
+      pb .1 ∙ (ap (λ (i : ℕ). Sink g (capped i)) num ∙ ap (λ (x : SinkFault). Sink x (capped (number + piece-at (length (kept p before (joined (ps ++ qs)))) (ps ++ qs)))) (cut .1)),
+      pb .2 ∙ (append-assoc before (joined ps) rest ∙ ap (λ (xs : List ℕ). before ++ xs) (sym same)),
+    )

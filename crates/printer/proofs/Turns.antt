@@ -39,13 +39,13 @@ turn-known over m pen (t ∷ ts) s n f first e g =
     ⊎-elim
     (λ w. absurd (apart n (sym ext ∙ cond-true (waiting t ts) _ _ w)))
     (λ w. let known : Known (cond (free t) 0 (size t ts)) ≡ Known n = sym (cond-false (waiting t ts) _ _ w) ∙ ext in
-       let num : cond (free t) 0 (size t ts) ≡ n = cc in
-       ⊎-elim
-       (λ fr. (or-right over _ (or-left (free t) _ fr), ap (λ (x : Slot). x .token) is, writes-free m pen t f (fits m pen t ts) fr, after-free m pen t f (fits m pen t ts) fr))
-       (λ nf. let r : reached (opens t) ts ≡ true = ⊎-elim (λ q. let z : _≡_ {A = ℕ} 0 1 = cc in absurd (omega arith)) (λ q. q) (or-cases (free t) (reached (opens t) ts) (not-false _ w)) in
-          let same : f ≡ fits m pen t ts = g ∙ ap (λ (k : ℕ). leb (pen .column + k) m) (sym num ∙ cond-false (free t) _ _ nf) in
-          (or-right over _ (or-right (free t) _ (or-left (reached (opens t) ts) _ r)), ap (λ (x : Slot). x .token) is, ap (writes m pen t) same, ap (after m pen t) same))
-       (cases-bool (free t)))
+    let num : cond (free t) 0 (size t ts) ≡ n = cc in
+    ⊎-elim
+    (λ fr. (or-right over _ (or-left (free t) _ fr), ap (λ (x : Slot). x .token) is, writes-free m pen t f (fits m pen t ts) fr, after-free m pen t f (fits m pen t ts) fr))
+    (λ nf. let r : reached (opens t) ts ≡ true = ⊎-elim (λ q. let z : _≡_ {A = ℕ} 0 1 = cc in absurd (omega arith)) (λ q. q) (or-cases (free t) (reached (opens t) ts) (not-false _ w)) in
+    let same : f ≡ fits m pen t ts = g ∙ ap (λ (k : ℕ). leb (pen .column + k) m) (sym num ∙ cond-false (free t) _ _ nf) in
+    (or-right over _ (or-right (free t) _ (or-left (reached (opens t) ts) _ r)), ap (λ (x : Slot). x .token) is, ap (writes m pen t) same, ap (after m pen t) same))
+    (cases-bool (free t)))
     (cases-bool (waiting t ts))
 
 -- a first token that waits: it passes at the end, or where it does not fit
@@ -59,9 +59,14 @@ turn-waiting over m pen (t ∷ ts) s f first e g =
     let ext : extent t ts ≡ Waiting = sym (ap (λ (x : Slot). x .extent) is) ∙ e in
     ⊎-elim
     (λ w. let p = waiting-true t ts w in
-       let same : f ≡ fits m pen t ts = g ∙ ap (λ (k : ℕ). leb (pen .column + (width t + k)) m) (sym (before-unreached (opens t) ts (p .1))) in
-       ( (λ o. ( ⊎-elim (λ a. or-left over _ a) (λ a. or-right over _ (or-right (free t) _ (or-right (reached (opens t) ts) _ (ap not (sym same) ∙ ap not a)))) o
-               , ap (λ (x : Slot). x .token) is, ap (writes m pen t) same, ap (after m pen t) same))
-       , (λ a b. or-from over _ a (or-from (free t) _ (p .0) (or-from (reached (opens t) ts) _ (p .1) (ap not (sym same ∙ b)))))))
+    let same : f ≡ fits m pen t ts = g ∙ ap (λ (k : ℕ). leb (pen .column + (width t + k)) m) (sym (before-unreached (opens t) ts (p .1))) in (
+      (λ o. (
+        ⊎-elim (λ a. or-left over _ a) (λ a. or-right over _ (or-right (free t) _ (or-right (reached (opens t) ts) _ (ap not (sym same) ∙ ap not a)))) o,
+        ap (λ (x : Slot). x .token) is,
+        ap (writes m pen t) same,
+        ap (after m pen t) same,
+      )),
+      (λ a b. or-from over _ a (or-from (free t) _ (p .0) (or-from (reached (opens t) ts) _ (p .1) (ap not (sym same ∙ b))))),
+    ))
     (λ w. absurd (apart _ (sym (cond-false (waiting t ts) _ _ w) ∙ ext)))
     (cases-bool (waiting t ts))

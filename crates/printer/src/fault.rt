@@ -25,7 +25,10 @@ pub impl From<AtToken> for PrinterFault as PrinterFaultFromSink {
     ghost converts = { λ a r. r ≡ SinkRefused (a .fault) (a .token) };
 
     fn from(a: AtToken) -> PrinterFault {
-        PrinterFault::Sink { fault: a.fault, token: a.token }
+        PrinterFault::Sink {
+            fault: a.fault,
+            token: a.token,
+        }
     }
 }
 

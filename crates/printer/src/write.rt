@@ -11,7 +11,12 @@ use sink::write::write_blanks;
 use sink::write::write_line;
 
 // Writes one run behind another.
-pub(crate) fn write_both<S: Sink>(sink: &mut S, older: usize, first: &[u8], second: &[u8]) -> Result<(), SinkFault>
+pub(crate) fn write_both<S: Sink>(
+    sink: &mut S,
+    older: usize,
+    first: &[u8],
+    second: &[u8],
+) -> Result<(), SinkFault>
     ensures rule { λ _. ⌜ S·Sink .rule (now (sink .exit)) ≡ S·Sink .rule (now (sink .entry)) ⌝ }
     ensures later { λ _. ⌜ S·Sink .later (now (sink .entry)) (now (sink .exit)) ⌝ }
     ensures writes { λ r. ⌜ Wrote (S·Sink .rule (now (sink .entry))) (S·Sink .text (now (sink .entry))) (now (first .entry) ++ now (second .entry)) older (S·Sink .text (now (sink .exit))) r ⌝ }
@@ -21,7 +26,11 @@ pub(crate) fn write_both<S: Sink>(sink: &mut S, older: usize, first: &[u8], seco
 }
 
 // Writes blanks, or a newline and blanks, with nothing left to decide.
-pub(crate) fn write_breaking<S: Sink>(sink: &mut S, older: usize, how: Breaking) -> Result<(), SinkFault>
+pub(crate) fn write_breaking<S: Sink>(
+    sink: &mut S,
+    older: usize,
+    how: Breaking,
+) -> Result<(), SinkFault>
     ensures rule { λ _. ⌜ S·Sink .rule (now (sink .exit)) ≡ S·Sink .rule (now (sink .entry)) ⌝ }
     ensures later { λ _. ⌜ S·Sink .later (now (sink .entry)) (now (sink .exit)) ⌝ }
     ensures writes { λ r. ⌜ Wrote (S·Sink .rule (now (sink .entry))) (S·Sink .text (now (sink .entry))) (bytes-of how) older (S·Sink .text (now (sink .exit))) r ⌝ }

@@ -12,7 +12,7 @@ ghost use lib.ListN.{length, getD, set, take, drop};
 ghost use Rattle.std.specs.Options.{Cases as BySome};
 ghost use Rattle.queue.specs.Held.{held, slot};
 
-/// Where a queue begins among its slots, and how many elements it holds.
+// Where a queue begins among its slots, and how many elements it holds.
 #[derive(Clone, Copy)]
 pub struct Ring {
     head: usize,
@@ -20,7 +20,7 @@ pub struct Ring {
 }
 
 impl Ring {
-    /// The ring of a queue that holds nothing.
+    // The ring of a queue that holds nothing.
     pub const fn empty() -> Ring
         ensures head { λ r. ⌜ r .head ≡ 0 ⌝ }
         ensures len { λ r. ⌜ r .len ≡ 0 ⌝ }
@@ -39,7 +39,7 @@ fn place(room: usize, head: usize, i: usize) -> usize
     if i < behind { head + i } else { i - behind }
 }
 
-/// How many elements the queue holds.
+// How many elements the queue holds.
 pub fn count<T: Copy>(slots: &[T], ring: &Ring) -> usize
     ensures value { λ r. ⌜ r ≡ length (held (now (slots .entry)) (now (ring .entry))) ⌝ }
     ensures within { λ r. ⌜ r ≤ length (now (slots .entry)) ⌝ }
@@ -47,7 +47,7 @@ pub fn count<T: Copy>(slots: &[T], ring: &Ring) -> usize
     ring.len.min(slots.len())
 }
 
-/// Adds `x` as the last element; `false`, with nothing changed, where every slot is taken.
+// Adds `x` as the last element; `false`, with nothing changed, where every slot is taken.
 pub fn push_back<T: Copy>(slots: &mut [T], ring: &mut Ring, x: T) -> bool
     ensures answer { λ r. ⌜ r ≡ ltb (length (held (now (slots .entry)) (now (ring .entry)))) (length (now (slots .entry))) ⌝ }
     ensures holds { λ r. ⌜ held (now (slots .exit)) (now (ring .exit)) ≡ cond r (held (now (slots .entry)) (now (ring .entry)) ++ x ∷ []) (held (now (slots .entry)) (now (ring .entry))) ⌝ }
@@ -63,7 +63,7 @@ pub fn push_back<T: Copy>(slots: &mut [T], ring: &mut Ring, x: T) -> bool
     true
 }
 
-/// Adds all of `xs` behind the last element, in their order; `false`, with nothing changed, where they do not all fit.
+// Adds all of `xs` behind the last element, in their order; `false`, with nothing changed, where they do not all fit.
 pub fn push_all<T: Copy>(slots: &mut [T], ring: &mut Ring, xs: &[T]) -> bool
     ensures answer { λ r. ⌜ r ≡ leb (length (held (now (slots .entry)) (now (ring .entry))) + length (now (xs .entry))) (length (now (slots .entry))) ⌝ }
     ensures holds { λ r. ⌜ held (now (slots .exit)) (now (ring .exit)) ≡ cond r (held (now (slots .entry)) (now (ring .entry)) ++ now (xs .entry)) (held (now (slots .entry)) (now (ring .entry))) ⌝ }
@@ -80,7 +80,7 @@ pub fn push_all<T: Copy>(slots: &mut [T], ring: &mut Ring, xs: &[T]) -> bool
     true
 }
 
-/// Takes the first element off; `None` where there is none.
+// Takes the first element off; `None` where there is none.
 pub fn pop_front<T: Copy>(slots: &[T], ring: &mut Ring) -> Option<T>
     ensures holds { λ r. ⌜ BySome r ((held (now (slots .entry)) (now (ring .entry)) ≡ []) × (now (ring .exit) ≡ now (ring .entry))) (λ x. held (now (slots .entry)) (now (ring .entry)) ≡ x ∷ held (now (slots .entry)) (now (ring .exit))) ⌝ }
     ensures count { λ r. ⌜ BySome r (length (held (now (slots .entry)) (now (ring .entry))) ≡ 0) (λ _. length (held (now (slots .entry)) (now (ring .exit))) + 1 ≡ length (held (now (slots .entry)) (now (ring .entry)))) ⌝ }
@@ -96,7 +96,7 @@ pub fn pop_front<T: Copy>(slots: &[T], ring: &mut Ring) -> Option<T>
     Some(slots[at])
 }
 
-/// Takes the first `n` elements off, or all where there are fewer.
+// Takes the first `n` elements off, or all where there are fewer.
 pub fn drop_front<T: Copy>(slots: &[T], ring: &mut Ring, n: usize)
     ensures holds { λ _. ⌜ held (now (slots .entry)) (now (ring .exit)) ≡ drop n (held (now (slots .entry)) (now (ring .entry))) ⌝ }
     ensures count { λ _. ⌜ length (held (now (slots .entry)) (now (ring .exit))) ≡ length (held (now (slots .entry)) (now (ring .entry))) - n ⌝ }
@@ -108,7 +108,7 @@ pub fn drop_front<T: Copy>(slots: &[T], ring: &mut Ring, n: usize)
     ring.len = len.saturating_sub(n);
 }
 
-/// Takes the last element off; `None` where there is none.
+// Takes the last element off; `None` where there is none.
 pub fn pop_back<T: Copy>(slots: &[T], ring: &mut Ring) -> Option<T>
     ensures holds { λ r. ⌜ BySome r ((held (now (slots .entry)) (now (ring .entry)) ≡ []) × (now (ring .exit) ≡ now (ring .entry))) (λ x. held (now (slots .entry)) (now (ring .entry)) ≡ held (now (slots .entry)) (now (ring .exit)) ++ x ∷ []) ⌝ }
     ensures count { λ r. ⌜ BySome r (length (held (now (slots .entry)) (now (ring .entry))) ≡ 0) (λ _. length (held (now (slots .entry)) (now (ring .exit))) + 1 ≡ length (held (now (slots .entry)) (now (ring .entry)))) ⌝ }
@@ -122,14 +122,14 @@ pub fn pop_back<T: Copy>(slots: &[T], ring: &mut Ring) -> Option<T>
     Some(slots[at])
 }
 
-/// The first element.
+// The first element.
 pub fn front<T: Copy>(slots: &[T], ring: &Ring) -> Option<T>
     ensures holds { λ r. ⌜ BySome r (held (now (slots .entry)) (now (ring .entry)) ≡ []) (λ x. held (now (slots .entry)) (now (ring .entry)) ≡ x ∷ drop 1 (held (now (slots .entry)) (now (ring .entry)))) ⌝ }
 {
     get(slots, ring, 0)
 }
 
-/// The first `n` elements, or all where there are fewer, in the at most two runs in which they lie.
+// The first `n` elements, or all where there are fewer, in the at most two runs in which they lie.
 pub fn front_runs<'a, T: Copy>(slots: &'a [T], ring: &Ring, n: usize) -> (&'a [T], &'a [T])
     ensures { λ r. ⌜ now (r .0) ++ now (r .1) ≡ take n (held (now (slots .entry)) (now (ring .entry))) ⌝ }
 {
@@ -139,7 +139,7 @@ pub fn front_runs<'a, T: Copy>(slots: &'a [T], ring: &Ring, n: usize) -> (&'a [T
     (&behind[..first], &before[..n - first])
 }
 
-/// The last element.
+// The last element.
 pub fn back<T: Copy>(slots: &[T], ring: &Ring) -> Option<T>
     ensures holds { λ r. ⌜ BySome r (held (now (slots .entry)) (now (ring .entry)) ≡ []) (λ x. held (now (slots .entry)) (now (ring .entry)) ≡ take (length (held (now (slots .entry)) (now (ring .entry))) - 1) (held (now (slots .entry)) (now (ring .entry))) ++ x ∷ []) ⌝ }
 {
@@ -150,7 +150,7 @@ pub fn back<T: Copy>(slots: &[T], ring: &Ring) -> Option<T>
     get(slots, ring, len - 1)
 }
 
-/// The element that has `i` others before it.
+// The element that has `i` others before it.
 pub fn get<T: Copy>(slots: &[T], ring: &Ring, i: usize) -> Option<T>
     ensures holds { λ r. ⌜ BySome r (length (held (now (slots .entry)) (now (ring .entry))) ≤ i) (λ x. (i < length (held (now (slots .entry)) (now (ring .entry)))) × (x ≡ getD (held (now (slots .entry)) (now (ring .entry))) i x)) ⌝ }
 {
@@ -160,7 +160,7 @@ pub fn get<T: Copy>(slots: &[T], ring: &Ring, i: usize) -> Option<T>
     Some(slots[place(slots.len(), ring.head, i)])
 }
 
-/// Puts `x` in place of the element that has `i` others before it; `false`, with nothing changed, where there is none.
+// Puts `x` in place of the element that has `i` others before it; `false`, with nothing changed, where there is none.
 pub fn put<T: Copy>(slots: &mut [T], ring: &Ring, i: usize, x: T) -> bool
     ensures answer { λ r. ⌜ r ≡ ltb i (length (held (now (slots .entry)) (now (ring .entry)))) ⌝ }
     ensures holds { λ _. ⌜ held (now (slots .exit)) (now (ring .entry)) ≡ set (held (now (slots .entry)) (now (ring .entry))) i x ⌝ }

@@ -68,7 +68,8 @@ counts-more k b d h x s s′ c m l =
       total = m .total (b + widths h) (c .total) ∙ ap wrapped (omega arith);
       texts = m .texts ∙ (ap (λ (xs : List ℕ). xs ++ text-of x) (c .texts) ∙ (ap (λ (xs : List ℕ). texts h ++ xs) (sym (append-nil (text-of x))) ∙ sym (texts-append h (x ∷ []))));
       depth = m .depth ∙ (ap (λ (n : ℕ). nest n (x ∷ [])) (c .depth) ∙ sym (nest-append d h (x ∷ [])));
-      room = omega arith }
+      room = omega arith;
+    }
 
 -- a token that is no Break comes
 pub come-quiet : (k d : ℕ) (h : List Token) (x : Token) (s s′ : Scan) → (hold : Holds k d h s) → quiet x ≡ true → More x s s′ → widths h + width x < 65536
@@ -80,7 +81,8 @@ come-quiet k d h x s s′ hold q m l e p =
       base = hold .base;
       counts = counts-more k (hold .base) d h x s s′ (hold .counts) m l;
       slots = e ∙ (ap (λ (xs : List Slot). xs ++ slotted x (extent x []) ∷ []) (hold .slots) ∙ sym (recorded-quiet h x q));
-      places = p ∙ (ap (λ (ps : List Place). ps ++ own (k + length h) (hold .base + widths h) (nest d h) x) (hold .places) ∙ sym (waits-quiet k (hold .base) d h x q)) }
+      places = p ∙ (ap (λ (ps : List Place). ps ++ own (k + length h) (hold .base + widths h) (nest d h) x) (hold .places) ∙ sym (waits-quiet k (hold .base) d h x q));
+    }
 
 -- a Break comes, once it has settled what it settles
 pub come-break : (k b d : ℕ) (h : List Token) (n : ℕ) (o : ℤ) (s s′ : Scan) → Settling k b d h (keeps h) s → More (Break n o) s s′ → widths h + n < 65536
@@ -92,7 +94,8 @@ come-break k b d h n o s s′ hold m l e p =
       base = b;
       counts = counts-more k b d h (Break n o) s s′ (hold .counts) m l;
       slots = e ∙ (ap (λ (xs : List Slot). xs ++ slotted (Break n o) Waiting ∷ []) (hold .slots) ∙ mixed-break h n o);
-      places = p ∙ (ap (λ (ps : List Place). ps ++ place (k + length h) (b + widths h) (nest d h) ∷ []) (hold .places) ∙ sym (waits-break k b d h n o)) }
+      places = p ∙ (ap (λ (ps : List Place). ps ++ place (k + length h) (b + widths h) (nest d h) ∷ []) (hold .places) ∙ sym (waits-break k b d h n o));
+    }
 
 -- settling begins with all waiting tokens waiting
 pub settling-starts : (k d : ℕ) (h : List Token) (s : Scan) → (hold : Holds k d h s) → keeps h ≤ length (waits k (hold .base) d h) → Settling k (hold .base) d h (length (waits k (hold .base) d h)) s
@@ -102,7 +105,8 @@ settling-starts k d h s hold l =
       slots = hold .slots ∙ sym (mixed-all _ k (hold .base) d h (omega arith));
       places = hold .places ∙ sym (take-all _ _ (omega arith));
       most = omega arith;
-      least = l }
+      least = l;
+    }
 
 -- nothing is held at first
 pub fresh : (s : Scan) → s .serial ≡ 0 → s .base ≡ 0 → s .total ≡ 0 → s .depth ≡ 0 → held (s .texts) (s .«text_ring») ≡ [] → held (s .slots) (s .«slot_ring») ≡ [] → held (s .places) (s .«place_ring») ≡ [] → Holds 0 0 [] s

@@ -64,6 +64,8 @@ gone k d t ts s s′ x hold es ep et eb en eo ed =
         total = omega arith;
         texts = et ∙ (ap (λ (y : Slot). drop (bytes-of (y .token)) (held (s .texts) (s .«text_ring»))) is ∙ (ap (λ (bs : List ℕ). drop (bytes-of (shape t)) bs) (c .texts) ∙ bytes-shape t ts));
         depth = ed ∙ (c .depth ∙ sym (nest-deeper d t ts));
-        room = omega arith };
+        room = omega arith;
+      };
       slots = rest;
-      places = ep ∙ (ap (λ (y : Slot). drop (places-of (y .extent)) (held (s .places) (s .«place_ring»))) is ∙ (ap (λ (ps : List Place). drop (places-of (extent t ts)) ps) (hold .places) ∙ places-gone k (hold .base) d t ts)) }
+      places = ep ∙ (ap (λ (y : Slot). drop (places-of (y .extent)) (held (s .places) (s .«place_ring»))) is ∙ (ap (λ (ps : List Place). drop (places-of (extent t ts)) ps) (hold .places) ∙ places-gone k (hold .base) d t ts));
+    }

@@ -42,9 +42,10 @@ keeps-waits k b d [] = omega arith
 keeps-waits k b d (t ∷ ts) =
     let ih = keeps-waits (suc k) (b + width t) (deeper d t) ts in
     let rest = waits (suc k) (b + width t) (deeper d t) ts in
-    elim (waiting t ts) as (λ w. cond (w && ltb 0 (nest (opens t) ts)) (suc (keeps ts)) (keeps ts) ≤ length (cond w (place k b d ∷ rest) rest))
-      [ true ↦ elim (ltb 0 (nest (opens t) ts)) as (λ v. cond v (suc (keeps ts)) (keeps ts) ≤ suc (length rest)) [ true ↦ omega arith | false ↦ omega arith ]
-      | false ↦ ih ]
+    elim (waiting t ts) as (λ w. cond (w && ltb 0 (nest (opens t) ts)) (suc (keeps ts)) (keeps ts) ≤ length (cond w (place k b d ∷ rest) rest)) [
+      | true ↦ elim (ltb 0 (nest (opens t) ts)) as (λ v. cond v (suc (keeps ts)) (keeps ts) ≤ suc (length rest)) [ true ↦ omega arith | false ↦ omega arith ]
+      | false ↦ ih
+    ]
 
 module _ (k b d : ℕ) (h : List Token) (c : ℕ) (s : Scan) (stl : Settling k b d h c s) where
   places-of : List Place
@@ -76,7 +77,7 @@ module _ (k b d : ℕ) (h : List Token) (c : ℕ) (s : Scan) (stl : Settling k b
       let dep = stl .counts .depth in
       ⊎-elim
       (λ q. let x = deep n k b d h p (omega arith) (omega arith) in
-         let y : p .depth ≡ getD (waits k b d h) n p .depth = ap (λ (r : Place). r .depth) (at .1) in absurd (omega arith))
+      let y : p .depth ≡ getD (waits k b d h) n p .depth = ap (λ (r : Place). r .depth) (at .1) in absurd (omega arith))
       (λ q. omega arith)
       (cases-lt (keeps h) c)
 
@@ -110,14 +111,15 @@ module _ (k b d : ℕ) (h : List Token) (c : ℕ) (s : Scan) (stl : Settling k b
         n = n;
         is = cn;
         keep = ⊎-elim
-          (λ q. omega arith)
-          (λ q. let x = shallow n k b d h p (omega arith) in
-             let y : p .depth ≡ getD (waits k b d h) n p .depth = ap (λ (r : Place). r .depth) (at .1) in absurd (omega arith))
-          (cases-lt (keeps h) c);
+            (λ q. omega arith)
+            (λ q. let x = shallow n k b d h p (omega arith) in
+            let y : p .depth ≡ getD (waits k b d h) n p .depth = ap (λ (r : Place). r .depth) (at .1) in absurd (omega arith))
+            (cases-lt (keeps h) c);
         inside = within;
         at = unwrapped k i (p .serial) (s .serial) (omega arith) (stl .counts .serial) ser;
         size = unwrapped (b + widths (take i h)) (widths (drop i h)) (s .total) (p .since) (omega arith) sin (stl .counts .total ∙ ap wrapped (omega arith));
-        less = omega arith }
+        less = omega arith;
+      }
 
 -- the records once waiting token n is settled
 pub settled-slots : (k b d : ℕ) (h : List Token) (n : ℕ) (before now : List Slot) (at size : ℕ) (slot : Slot) → n < length (waits k b d h) → before ≡ mixed (suc n) h → at ≡ spot n h → size ≡ widths (drop (spot n h) h) → slot ≡ getD before at slot → now ≡ set before at (sized slot size) → now ≡ mixed n h

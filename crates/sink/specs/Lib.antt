@@ -6,3 +6,4 @@ pub mod Rule
 pub mod SlipLaws
 pub mod WindowLaws
 pub mod WindowText
+pub mod Longest

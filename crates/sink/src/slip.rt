@@ -1,5 +1,5 @@
-//! Slip, the sink of kind 2: a table of 16 rows of 40 bytes, where a newline starts the next row. It admits the texts of at most 15 newlines
-//! and 40 bytes a line.
+// Slip, the sink of kind 2: a table of 16 rows of 40 bytes, where a newline starts the next row. It admits the texts of at most 15 newlines
+// and 40 bytes a line.
 
 ghost use mathlib.Core.List.{[], map};
 ghost use mathlib.Core.Path.{_≡_};
@@ -13,10 +13,10 @@ pub use filling::SlipSink;
 mod filling;
 mod reading;
 
-/// How many rows a slip has.
+// How many rows a slip has.
 pub const ROWS: usize = 16;
 
-/// The rows up to the one at `at` hold the lines of a text of `len` bytes.
+// The rows up to the one at `at` hold the lines of a text of `len` bytes.
 #[derive(Drop)]
 pub struct Slip {
     rows: [Row; ROWS],
@@ -29,7 +29,7 @@ pub struct Slip {
 }
 
 impl Slip {
-    /// A slip with no text.
+    // A slip with no text.
     pub fn new() -> Slip
         ensures { λ r. ⌜ textOn (r .rows) (r .at) ≡ [] ⌝ }
     {

@@ -1,4 +1,4 @@
-//! The sinks at their edges, and a run that is cut.
+// The sinks at their edges, and a run that is cut.
 
 ghost use mathlib.Core.List.{[]};
 ghost use mathlib.Core.Path.{_≡_};

@@ -1,5 +1,5 @@
-//! Window, the sink of kind 1: a text in front of a lent buffer. It uses at most the first 32,768 bytes of the buffer and admits the texts
-//! that fit; the bytes past the text keep their old contents. The lender gets the buffer back, with the text in front.
+// Window, the sink of kind 1: a text in front of a lent buffer. It uses at most the first 32,768 bytes of the buffer and admits the texts
+// that fit; the bytes past the text keep their old contents. The lender gets the buffer back, with the text in front.
 
 ghost use mathlib.Core.List.{[]};
 ghost use mathlib.Core.Path.{_≡_};
@@ -14,17 +14,17 @@ use crate::kind::Kind;
 use crate::kind::KindIs;
 use crate::sink::Sink;
 
-/// The most bytes of a buffer that a window uses.
+// The most bytes of a buffer that a window uses.
 pub const MOST: usize = 32_768;
 
-/// The text is the first `len` bytes of the buffer.
+// The text is the first `len` bytes of the buffer.
 #[derive(Drop)]
 pub struct Window<'a> {
     buffer: &'a mut [u8],
     len: usize,
 }
 
-/// A buffer that its lender has back, with a text of `len` bytes in front.
+// A buffer that its lender has back, with a text of `len` bytes in front.
 #[derive(Drop)]
 pub struct Filled<'a> {
     pub buffer: &'a mut [u8],
@@ -32,7 +32,7 @@ pub struct Filled<'a> {
 }
 
 impl<'a> Window<'a> {
-    /// A window over a buffer, with no text.
+    // A window over a buffer, with no text.
     pub fn new(buffer: &'a mut [u8]) -> Window<'a>
         ensures loan { λ r. ⌜ name (r .buffer) ≡ name (buffer .entry) ⌝ }
         ensures bytes { λ r. ⌜ now (r .buffer) ≡ now (buffer .entry) ⌝ }
@@ -56,14 +56,14 @@ impl<'a> Window<'a> {
         self.len.min(self.room())
     }
 
-    /// The text.
+    // The text.
     pub fn text(&self) -> &[u8]
         ensures { λ r. ⌜ now r ≡ textOf (now (self .entry)) ⌝ }
     {
         &self.buffer[0..self.used()]
     }
 
-    /// The buffer, with the text in front. A function that is lent a buffer and returns this tells its caller what the buffer holds.
+    // The buffer, with the text in front. A function that is lent a buffer and returns this tells its caller what the buffer holds.
     pub fn into_buffer(self) -> Filled<'a>
         ensures loan { λ r. ⌜ name (r .buffer) ≡ name (self .entry .buffer) ⌝ }
         ensures bytes { λ r. ⌜ now (r .buffer) ≡ now (self .entry .buffer) ⌝ }

@@ -1,5 +1,5 @@
-//! Writes runs of bytes into any sink: all of a run, or up to the first byte that the sink's rule does not admit, with the fault of that
-//! byte. What stands in the sink then is the text before and what the rule keeps of the run.
+// Writes runs of bytes into any sink: all of a run, or up to the first byte that the sink's rule does not admit, with the fault of that
+// byte. What stands in the sink then is the text before and what the rule keeps of the run.
 
 ghost use mathlib.Core.List.{_∷_};
 ghost use mathlib.Core.Path.{_≡_};
@@ -11,7 +11,7 @@ use crate::fault::SinkFault;
 use crate::kind::KindNumber;
 use crate::sink::Sink;
 
-/// The fault of a refusal by a sink S, where a print of length `text` stands.
+// The fault of a refusal by a sink S, where a print of length `text` stands.
 pub fn sink_fault<S: Sink>(refusal: Refusal, text: usize) -> SinkFault
     ensures { λ r. ⌜ r ≡ fault-for (told (Kind·KindNumber .number) refusal) text ⌝ }
 {
@@ -25,7 +25,7 @@ pub fn sink_fault<S: Sink>(refusal: Refusal, text: usize) -> SinkFault
     }
 }
 
-/// Writes a run of bytes. `older` is the length of the text that stood before this print.
+// Writes a run of bytes. `older` is the length of the text that stood before this print.
 pub fn write<S: Sink>(sink: &mut S, older: usize, bytes: &[u8]) -> Result<(), SinkFault>
     ensures rule { λ _. ⌜ S·Sink .rule (now (sink .exit)) ≡ S·Sink .rule (now (sink .entry)) ⌝ }
     ensures later { λ _. ⌜ S·Sink .later (now (sink .entry)) (now (sink .exit)) ⌝ }
@@ -53,7 +53,7 @@ fn blanks(n: u8) -> &'static [u8]
     &BLANKS[0..n as usize]
 }
 
-/// Writes n blanks, as one run.
+// Writes n blanks, as one run.
 pub fn write_blanks<S: Sink>(sink: &mut S, older: usize, n: u8) -> Result<(), SinkFault>
     ensures rule { λ _. ⌜ S·Sink .rule (now (sink .exit)) ≡ S·Sink .rule (now (sink .entry)) ⌝ }
     ensures later { λ _. ⌜ S·Sink .later (now (sink .entry)) (now (sink .exit)) ⌝ }
@@ -63,7 +63,7 @@ pub fn write_blanks<S: Sink>(sink: &mut S, older: usize, n: u8) -> Result<(), Si
     write(sink, older, blanks(n))
 }
 
-/// Writes a newline and n blanks, as one run.
+// Writes a newline and n blanks, as one run.
 pub fn write_line<S: Sink>(sink: &mut S, older: usize, n: u8) -> Result<(), SinkFault>
     ensures rule { λ _. ⌜ S·Sink .rule (now (sink .exit)) ≡ S·Sink .rule (now (sink .entry)) ⌝ }
     ensures later { λ _. ⌜ S·Sink .later (now (sink .entry)) (now (sink .exit)) ⌝ }

@@ -64,16 +64,16 @@ place-at zero k b d (t ∷ ts) l =
     ⊎-elim
     (λ w. subst (Stands 0 k b d (t ∷ ts)) (sym (waits-on k b d t ts w)) (let e = spot-first t ts w in record { within = omega arith; is = here k b d t ts (waits (suc k) (b + width t) (deeper d t) ts) (spot 0 (t ∷ ts)) e }))
     (λ w. let e = spot-past 0 t ts w in let ih = place-at 0 (suc k) (b + width t) (deeper d t) ts (subst (λ (ps : List Place). 0 < length ps) (waits-off k b d t ts w) l) in
-       subst (Stands 0 k b d (t ∷ ts)) (sym (waits-off k b d t ts w)) (let m = ih .within in record { within = omega arith; is = λ p. ih .is p ∙ there k b d t ts _ _ e }))
+    subst (Stands 0 k b d (t ∷ ts)) (sym (waits-off k b d t ts w)) (let m = ih .within in record { within = omega arith; is = λ p. ih .is p ∙ there k b d t ts _ _ e }))
     (cases-bool (waiting t ts))
 place-at (suc c) k b d (t ∷ ts) l =
     ⊎-elim
     (λ w. let e = spot-later c t ts w in
-       let less : suc c < length (place k b d ∷ waits (suc k) (b + width t) (deeper d t) ts) = subst (λ (ps : List Place). suc c < length ps) (waits-on k b d t ts w) l in
-       let ih = place-at c (suc k) (b + width t) (deeper d t) ts (omega arith) in
-       subst (Stands (suc c) k b d (t ∷ ts)) (sym (waits-on k b d t ts w)) (let m = ih .within in record { within = omega arith; is = λ p. ih .is p ∙ there k b d t ts _ _ e }))
+    let less : suc c < length (place k b d ∷ waits (suc k) (b + width t) (deeper d t) ts) = subst (λ (ps : List Place). suc c < length ps) (waits-on k b d t ts w) l in
+    let ih = place-at c (suc k) (b + width t) (deeper d t) ts (omega arith) in
+    subst (Stands (suc c) k b d (t ∷ ts)) (sym (waits-on k b d t ts w)) (let m = ih .within in record { within = omega arith; is = λ p. ih .is p ∙ there k b d t ts _ _ e }))
     (λ w. let e = spot-past (suc c) t ts w in let ih = place-at (suc c) (suc k) (b + width t) (deeper d t) ts (subst (λ (ps : List Place). suc c < length ps) (waits-off k b d t ts w) l) in
-       subst (Stands (suc c) k b d (t ∷ ts)) (sym (waits-off k b d t ts w)) (let m = ih .within in record { within = omega arith; is = λ p. ih .is p ∙ there k b d t ts _ _ e }))
+    subst (Stands (suc c) k b d (t ∷ ts)) (sym (waits-off k b d t ts w)) (let m = ih .within in record { within = omega arith; is = λ p. ih .is p ∙ there k b d t ts _ _ e }))
     (cases-bool (waiting t ts))
 
 -- a record whose size is known now
@@ -109,17 +109,17 @@ mixed-step c k b d [] l = absurd (omega arith)
 mixed-step zero k b d (t ∷ ts) l =
     ⊎-elim
     (λ w s. let F : List Slot → ℕ → List Slot = λ xs n. set xs n (sized (getD xs n s) (widths (drop n (t ∷ ts)))) in
-       mixed-first t ts w ∙ sym (ap (λ (xs : List Slot). F xs (spot 0 (t ∷ ts))) (mixed-later 0 t ts w) ∙ ap (F (slotted t (extent t ts) ∷ mixed 0 ts)) (spot-first t ts w)))
+    mixed-first t ts w ∙ sym (ap (λ (xs : List Slot). F xs (spot 0 (t ∷ ts))) (mixed-later 0 t ts w) ∙ ap (F (slotted t (extent t ts) ∷ mixed 0 ts)) (spot-first t ts w)))
     (λ w. steps-cons 0 t ts (slotted t (extent t ts)) (mixed 1 ts) (mixed 0 ts) _ _ _ _ (spot-past 0 t ts w) (mixed-past 1 t ts w) (mixed-past 0 t ts w)
-       (mixed-step 0 (suc k) (b + width t) (deeper d t) ts (subst (λ (ps : List Place). 0 < length ps) (waits-off k b d t ts w) l)))
+    (mixed-step 0 (suc k) (b + width t) (deeper d t) ts (subst (λ (ps : List Place). 0 < length ps) (waits-off k b d t ts w) l)))
     (cases-bool (waiting t ts))
 mixed-step (suc c) k b d (t ∷ ts) l =
     ⊎-elim
     (λ w. let less : suc c < length (place k b d ∷ waits (suc k) (b + width t) (deeper d t) ts) = subst (λ (ps : List Place). suc c < length ps) (waits-on k b d t ts w) l in
-       steps-cons (suc c) t ts (slotted t (extent t ts)) (mixed (suc c) ts) (mixed c ts) _ _ _ _ (spot-later c t ts w) (mixed-later (suc c) t ts w) (mixed-later c t ts w)
-       (mixed-step c (suc k) (b + width t) (deeper d t) ts (omega arith)))
+    steps-cons (suc c) t ts (slotted t (extent t ts)) (mixed (suc c) ts) (mixed c ts) _ _ _ _ (spot-later c t ts w) (mixed-later (suc c) t ts w) (mixed-later c t ts w)
+    (mixed-step c (suc k) (b + width t) (deeper d t) ts (omega arith)))
     (λ w. steps-cons (suc c) t ts (slotted t (extent t ts)) (mixed (suc (suc c)) ts) (mixed (suc c) ts) _ _ _ _ (spot-past (suc c) t ts w) (mixed-past (suc (suc c)) t ts w) (mixed-past (suc c) t ts w)
-       (mixed-step (suc c) (suc k) (b + width t) (deeper d t) ts (subst (λ (ps : List Place). suc c < length ps) (waits-off k b d t ts w) l)))
+    (mixed-step (suc c) (suc k) (b + width t) (deeper d t) ts (subst (λ (ps : List Place). suc c < length ps) (waits-off k b d t ts w) l)))
     (cases-bool (waiting t ts))
 
 -- from the last on, the places that a Break settles have at least as many blocks open before them as are open now
@@ -139,28 +139,28 @@ deep zero k b d (t ∷ ts) p l m =
     let D : List Place → Type 0 = λ ps. nest d (t ∷ ts) ≤ getD ps 0 p .depth in
     ⊎-elim
     (λ w. subst D (sym (waits-on k b d t ts w))
-       (⊎-elim
-         (λ z. let x = deeper-opens d t ts w in let y = nest-most (opens t) (deeper d t) d ts (omega arith) in omega arith)
-         (λ q. let y = keeps-on t ts w q in absurd (omega arith))
-         (cases-nest (nest (opens t) ts))))
+    (⊎-elim
+    (λ z. let x = deeper-opens d t ts w in let y = nest-most (opens t) (deeper d t) d ts (omega arith) in omega arith)
+    (λ q. let y = keeps-on t ts w q in absurd (omega arith))
+    (cases-nest (nest (opens t) ts))))
     (λ w. let y = keeps-settled t ts w in
-       let i = deep 0 (suc k) (b + width t) (deeper d t) ts p (omega arith) (subst (λ (ps : List Place). 0 < length ps) (waits-off k b d t ts w) m) in
-       subst D (sym (waits-off k b d t ts w)) (omega arith))
+    let i = deep 0 (suc k) (b + width t) (deeper d t) ts p (omega arith) (subst (λ (ps : List Place). 0 < length ps) (waits-off k b d t ts w) m) in
+    subst D (sym (waits-off k b d t ts w)) (omega arith))
     (cases-bool (waiting t ts))
 deep (suc c) k b d (t ∷ ts) p l m =
     let e = nest-in d t ts in
     let D : List Place → Type 0 = λ ps. nest d (t ∷ ts) ≤ getD ps (suc c) p .depth in
     ⊎-elim
     (λ w. let less : suc c < length (place k b d ∷ waits (suc k) (b + width t) (deeper d t) ts) = subst (λ (ps : List Place). suc c < length ps) (waits-on k b d t ts w) m in
-       let few : keeps ts ≤ c = ⊎-elim
-             (λ z. let s = nest-step t ts w in let r = nest-rest t ts in let n = none-kept ts (omega arith) in omega arith)
-             (λ q. let y = keeps-on t ts w q in omega arith)
-             (cases-nest (nest (opens t) ts)) in
-       let i = deep c (suc k) (b + width t) (deeper d t) ts p few (omega arith) in
-       subst D (sym (waits-on k b d t ts w)) (omega arith))
+    let few : keeps ts ≤ c = ⊎-elim
+    (λ z. let s = nest-step t ts w in let r = nest-rest t ts in let n = none-kept ts (omega arith) in omega arith)
+    (λ q. let y = keeps-on t ts w q in omega arith)
+    (cases-nest (nest (opens t) ts)) in
+    let i = deep c (suc k) (b + width t) (deeper d t) ts p few (omega arith) in
+    subst D (sym (waits-on k b d t ts w)) (omega arith))
     (λ w. let y = keeps-settled t ts w in
-       let i = deep (suc c) (suc k) (b + width t) (deeper d t) ts p (omega arith) (subst (λ (ps : List Place). suc c < length ps) (waits-off k b d t ts w) m) in
-       subst D (sym (waits-off k b d t ts w)) (omega arith))
+    let i = deep (suc c) (suc k) (b + width t) (deeper d t) ts p (omega arith) (subst (λ (ps : List Place). suc c < length ps) (waits-off k b d t ts w) m) in
+    subst D (sym (waits-off k b d t ts w)) (omega arith))
     (cases-bool (waiting t ts))
 
 -- and the last one that it leaves waiting has fewer
@@ -171,28 +171,28 @@ shallow zero k b d (t ∷ ts) p l =
     let D : List Place → Type 0 = λ ps. getD ps 0 p .depth < nest d (t ∷ ts) in
     ⊎-elim
     (λ w. subst D (sym (waits-on k b d t ts w))
-       (⊎-elim
-         (λ z. let s = nest-step t ts w in let r = nest-rest t ts in let n = none-kept ts (omega arith) in let y = keeps-off t ts z in absurd (omega arith))
-         (λ q. let y = keeps-on t ts w q in
-            ⊎-elim
-            (λ z. let x = deeper-opens d t ts w in let n = nest-shift (opens t) (deeper d t) d ts (omega arith) (omega arith) in omega arith)
-            (λ r. let n = some-kept ts r in absurd (omega arith))
-            (cases-nest (nest 0 ts)))
-         (cases-nest (nest (opens t) ts))))
+    (⊎-elim
+    (λ z. let s = nest-step t ts w in let r = nest-rest t ts in let n = none-kept ts (omega arith) in let y = keeps-off t ts z in absurd (omega arith))
+    (λ q. let y = keeps-on t ts w q in
+    ⊎-elim
+    (λ z. let x = deeper-opens d t ts w in let n = nest-shift (opens t) (deeper d t) d ts (omega arith) (omega arith) in omega arith)
+    (λ r. let n = some-kept ts r in absurd (omega arith))
+    (cases-nest (nest 0 ts)))
+    (cases-nest (nest (opens t) ts))))
     (λ w. let y = keeps-settled t ts w in
-       let i = shallow 0 (suc k) (b + width t) (deeper d t) ts p (omega arith) in
-       subst D (sym (waits-off k b d t ts w)) (omega arith))
+    let i = shallow 0 (suc k) (b + width t) (deeper d t) ts p (omega arith) in
+    subst D (sym (waits-off k b d t ts w)) (omega arith))
     (cases-bool (waiting t ts))
 shallow (suc c) k b d (t ∷ ts) p l =
     let e = nest-in d t ts in
     let D : List Place → Type 0 = λ ps. getD ps (suc c) p .depth < nest d (t ∷ ts) in
     ⊎-elim
     (λ w. subst D (sym (waits-on k b d t ts w))
-       (⊎-elim
-         (λ z. let s = nest-step t ts w in let r = nest-rest t ts in let n = none-kept ts (omega arith) in let y = keeps-off t ts z in absurd (omega arith))
-         (λ q. let y = keeps-on t ts w q in let i = shallow c (suc k) (b + width t) (deeper d t) ts p (omega arith) in omega arith)
-         (cases-nest (nest (opens t) ts))))
+    (⊎-elim
+    (λ z. let s = nest-step t ts w in let r = nest-rest t ts in let n = none-kept ts (omega arith) in let y = keeps-off t ts z in absurd (omega arith))
+    (λ q. let y = keeps-on t ts w q in let i = shallow c (suc k) (b + width t) (deeper d t) ts p (omega arith) in omega arith)
+    (cases-nest (nest (opens t) ts))))
     (λ w. let y = keeps-settled t ts w in
-       let i = shallow (suc c) (suc k) (b + width t) (deeper d t) ts p (omega arith) in
-       subst D (sym (waits-off k b d t ts w)) (omega arith))
+    let i = shallow (suc c) (suc k) (b + width t) (deeper d t) ts p (omega arith) in
+    subst D (sym (waits-off k b d t ts w)) (omega arith))
     (cases-bool (waiting t ts))

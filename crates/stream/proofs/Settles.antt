@@ -33,11 +33,11 @@ settled-stays t ts us w =
     let known : (xs : List Token) → waiting t xs ≡ false → extent t xs ≡ Known (cond (free t) 0 (size t xs)) = λ xs h. cond-false (waiting t xs) _ _ h in
     ⊎-elim
     (λ f. let q : waiting t (ts ++ us) ≡ false = not-from-true _ (or-left (free t) _ f) in
-       let same : cond (free t) 0 (size t (ts ++ us)) ≡ cond (free t) 0 (size t ts) = cond-true (free t) _ _ f ∙ sym (cond-true (free t) _ _ f) in
-       (q, known (ts ++ us) q ∙ (ap Known same ∙ sym (known ts w))))
+    let same : cond (free t) 0 (size t (ts ++ us)) ≡ cond (free t) 0 (size t ts) = cond-true (free t) _ _ f ∙ sym (cond-true (free t) _ _ f) in
+    (q, known (ts ++ us) q ∙ (ap Known same ∙ sym (known ts w))))
     (λ r. let q : waiting t (ts ++ us) ≡ false = not-from-true _ (or-right (free t) _ (reached-more (opens t) ts us r)) in
-       let same : cond (free t) 0 (size t (ts ++ us)) ≡ cond (free t) 0 (size t ts) = ap (λ (k : ℕ). cond (free t) 0 (width t + k)) (before-more (opens t) ts us r) in
-       (q, known (ts ++ us) q ∙ (ap Known same ∙ sym (known ts w))))
+    let same : cond (free t) 0 (size t (ts ++ us)) ≡ cond (free t) 0 (size t ts) = ap (λ (k : ℕ). cond (free t) 0 (width t + k)) (before-more (opens t) ts us r) in
+    (q, known (ts ++ us) q ∙ (ap Known same ∙ sym (known ts w))))
     (or-cases (free t) (reached (opens t) ts) (not-false _ w))
 
 -- a token that is no Break settles nothing
@@ -156,10 +156,10 @@ waits-break k b d (t ∷ ts) n o =
     let off : (xs : List Token) (ps : List Place) → waiting t xs ≡ false → cond (waiting t xs) (place k b d ∷ ps) ps ≡ ps = λ xs ps h. cond-false (waiting t xs) _ _ h in
     ⊎-elim
     (λ w. ⊎-elim
-        (λ z. let none = none-kept ts (let l = nest-rest t ts in let s = nest-step t ts w in omega arith) in
-          off (ts ++ x ∷ []) more (break-settles t ts n o z) ∙ (ih ∙ (ap (λ (c : ℕ). take c rest ++ last) none ∙ sym (ap (λ (c : ℕ). take c (cond (waiting t ts) (place k b d ∷ rest) rest) ++ last) (keeps-off t ts z ∙ none)))))
-        (λ p. on (ts ++ x ∷ []) more (break-keeps t ts n o w p) ∙ (ap (λ (ps : List Place). place k b d ∷ ps) ih ∙ sym (ap (λ (ps : List Place). take (keeps (t ∷ ts)) ps ++ last) (on ts rest w) ∙ ap (λ (c : ℕ). take c (place k b d ∷ rest) ++ last) (keeps-on t ts w p))))
-        (cases-nest (nest (opens t) ts)))
+    (λ z. let none = none-kept ts (let l = nest-rest t ts in let s = nest-step t ts w in omega arith) in
+    off (ts ++ x ∷ []) more (break-settles t ts n o z) ∙ (ih ∙ (ap (λ (c : ℕ). take c rest ++ last) none ∙ sym (ap (λ (c : ℕ). take c (cond (waiting t ts) (place k b d ∷ rest) rest) ++ last) (keeps-off t ts z ∙ none)))))
+    (λ p. on (ts ++ x ∷ []) more (break-keeps t ts n o w p) ∙ (ap (λ (ps : List Place). place k b d ∷ ps) ih ∙ sym (ap (λ (ps : List Place). take (keeps (t ∷ ts)) ps ++ last) (on ts rest w) ∙ ap (λ (c : ℕ). take c (place k b d ∷ rest) ++ last) (keeps-on t ts w p))))
+    (cases-nest (nest (opens t) ts)))
     (λ w. off (ts ++ x ∷ []) more (settled-stays t ts (x ∷ []) w .0) ∙ (ih ∙ sym (ap (λ (ps : List Place). take (keeps (t ∷ ts)) ps ++ last) (off ts rest w) ∙ ap (λ (c : ℕ). take c rest ++ last) (keeps-settled t ts w))))
     (cases-bool (waiting t ts))
 
@@ -171,9 +171,9 @@ mixed-all c k b d (t ∷ ts) l =
     let both : (e : Extent) (c′ : ℕ) → e ≡ extent t ts → length rest ≤ c′ → slotted t e ∷ mixed c′ ts ≡ recorded (t ∷ ts) = λ e c′ p q. ap (λ (x : Extent). slotted t x ∷ mixed c′ ts) p ∙ ap (λ (ss : List Slot). slotted t (extent t ts) ∷ ss) (mixed-all c′ (suc k) (b + width t) (deeper d t) ts q) in
     ⊎-elim
     (λ w. let m : length (place k b d ∷ rest) ≤ c = subst (λ (ps : List Place). length ps ≤ c) (cond-true (waiting t ts) _ _ w) l in
-       both _ _ (cond-false _ _ _ (and-right (waiting t ts) (eqb c 0) (ne-eqb c 0 (omega arith)))) (subst (λ (n : ℕ). length rest ≤ n) (sym (cond-true (waiting t ts) _ _ w)) (omega arith)))
+    both _ _ (cond-false _ _ _ (and-right (waiting t ts) (eqb c 0) (ne-eqb c 0 (omega arith)))) (subst (λ (n : ℕ). length rest ≤ n) (sym (cond-true (waiting t ts) _ _ w)) (omega arith)))
     (λ w. let m : length rest ≤ c = subst (λ (ps : List Place). length ps ≤ c) (cond-false (waiting t ts) _ _ w) l in
-       both _ _ (cond-false _ _ _ (and-left (waiting t ts) (eqb c 0) w)) (subst (λ (n : ℕ). length rest ≤ n) (sym (cond-false (waiting t ts) _ _ w)) m))
+    both _ _ (cond-false _ _ _ (and-left (waiting t ts) (eqb c 0) w)) (subst (λ (n : ℕ). length rest ≤ n) (sym (cond-false (waiting t ts) _ _ w)) m))
     (cases-bool (waiting t ts))
 
 -- with all settled that a Break settles, they stand for the tokens with that Break
@@ -186,13 +186,13 @@ mixed-break (t ∷ ts) n o =
     let c = keeps (t ∷ ts) in
     ⊎-elim
     (λ w. ⊎-elim
-        (λ z. let p = waiting-true t ts w in
-          let none = none-kept ts (let l = nest-rest t ts in let s = nest-step t ts w in omega arith) in
-          let off = keeps-off t ts z in
-          let known : extent t (ts ++ x ∷ []) ≡ Known (widths (t ∷ ts)) = cond-false (waiting t (ts ++ x ∷ [])) _ _ (break-settles t ts n o z) ∙ ap Known (cond-false (free t) _ _ (p .0) ∙ ap (λ (k : ℕ). width t + k) (before-break (opens t) ts n o (p .1) z)) in
-          both _ _ (cond-true _ _ _ (and-from _ _ w (eq-eqb c 0 (omega arith))) ∙ sym known) (cond-true (waiting t ts) _ _ w ∙ (omega arith)))
-        (λ q. let e = keeps-on t ts w q in
-          both _ _ (cond-false _ _ _ (and-right (waiting t ts) (eqb c 0) (ne-eqb c 0 (omega arith))) ∙ (cond-true (waiting t ts) _ _ w ∙ sym (cond-true (waiting t (ts ++ x ∷ [])) _ _ (break-keeps t ts n o w q)))) (cond-true (waiting t ts) _ _ w ∙ (omega arith)))
-        (cases-nest (nest (opens t) ts)))
+    (λ z. let p = waiting-true t ts w in
+    let none = none-kept ts (let l = nest-rest t ts in let s = nest-step t ts w in omega arith) in
+    let off = keeps-off t ts z in
+    let known : extent t (ts ++ x ∷ []) ≡ Known (widths (t ∷ ts)) = cond-false (waiting t (ts ++ x ∷ [])) _ _ (break-settles t ts n o z) ∙ ap Known (cond-false (free t) _ _ (p .0) ∙ ap (λ (k : ℕ). width t + k) (before-break (opens t) ts n o (p .1) z)) in
+    both _ _ (cond-true _ _ _ (and-from _ _ w (eq-eqb c 0 (omega arith))) ∙ sym known) (cond-true (waiting t ts) _ _ w ∙ (omega arith)))
+    (λ q. let e = keeps-on t ts w q in
+    both _ _ (cond-false _ _ _ (and-right (waiting t ts) (eqb c 0) (ne-eqb c 0 (omega arith))) ∙ (cond-true (waiting t ts) _ _ w ∙ sym (cond-true (waiting t (ts ++ x ∷ [])) _ _ (break-keeps t ts n o w q)))) (cond-true (waiting t ts) _ _ w ∙ (omega arith)))
+    (cases-nest (nest (opens t) ts)))
     (λ w. both _ _ (cond-false _ _ _ (and-left (waiting t ts) (eqb c 0) w) ∙ sym (settled-stays t ts (x ∷ []) w .1)) (cond-false (waiting t ts) _ _ w ∙ keeps-settled t ts w))
     (cases-bool (waiting t ts))

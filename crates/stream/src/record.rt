@@ -6,8 +6,15 @@ use layout::token::Fold;
 #[derive(Clone, Copy)]
 pub enum Held {
     Text(u16),
-    Break { blanks: u8, offset: i8 },
-    Opening { offset: i8, fold: Fold, anchor: Anchor },
+    Break {
+        blanks: u8,
+        offset: i8,
+    },
+    Opening {
+        offset: i8,
+        fold: Fold,
+        anchor: Anchor,
+    },
     Ending,
 }
 

@@ -58,22 +58,34 @@ impl<S: Sink> DirectJob<S> {
     }
 
     // Hands in an Opening, and gives the receipt of its block.
-    pub fn open_block(&mut self, offset: i8, fold: Fold, anchor: Anchor) -> Result<Receipt, DirectFault>
+    pub fn open_block(
+        &mut self,
+        offset: i8,
+        fold: Fold,
+        anchor: Anchor,
+    ) -> Result<Receipt, DirectFault>
         ensures later { λ _. ⌜ S·Sink .later (now (self .entry) .sink) (now (self .exit) .sink) ⌝ }
         ensures stands { λ r. ⌜ ((s : Start) (calls : List Call) → Stands s calls (seen (S·Sink .text) (S·Sink .rule) (now (self .entry))) → Called s calls (opening-call offset fold anchor) (seen (S·Sink .text) (S·Sink .rule) (now (self .exit))) (answer s (course s calls) (opening-call offset fold anchor)) (now (self .exit) .sink ≡ now (self .entry) .sink) × Received s (course s calls) (answer s (course s calls) (opening-call offset fold anchor)) r) ⌝ }
     {
         self.ready()?;
         if !is_near(offset) {
-            return Err(DirectFault::Range { token: self.given as u64 });
+            return Err(DirectFault::Range {
+                token: self.given as u64,
+            });
         }
         if self.depth >= 64 {
-            return Err(DirectFault::Blocks { token: self.given as u64 });
+            return Err(DirectFault::Blocks {
+                token: self.given as u64,
+            });
         }
         let number = self.given;
         self.take(an_opening(offset, fold, anchor))?;
         self.blocks[self.depth] = number;
         self.depth += 1;
-        Ok(Receipt { job: self.number, token: number })
+        Ok(Receipt {
+            job: self.number,
+            token: number,
+        })
     }
 
     // Hands in an Ending, and takes the receipt of its block, refused or not.
@@ -84,7 +96,9 @@ impl<S: Sink> DirectJob<S> {
         let Receipt { job, token } = receipt;
         self.ready()?;
         if !self.meets(job, token) {
-            let fault = DirectFault::Receipt { token: self.given as u64 };
+            let fault = DirectFault::Receipt {
+                token: self.given as u64,
+            };
             self.fault = Some(fault);
             return Err(fault);
         }
@@ -114,7 +128,9 @@ impl<S: Sink> DirectJob<S> {
     {
         self.ready()?;
         if !fits {
-            return Err(DirectFault::Range { token: self.given as u64 });
+            return Err(DirectFault::Range {
+                token: self.given as u64,
+            });
         }
         self.take(token)
     }
@@ -128,7 +144,9 @@ impl<S: Sink> DirectJob<S> {
             return Err(fault);
         }
         if self.given >= 1_000_000 {
-            let fault = DirectFault::Tokens { token: self.given as u64 };
+            let fault = DirectFault::Tokens {
+                token: self.given as u64,
+            };
             self.fault = Some(fault);
             return Err(fault);
         }
@@ -159,7 +177,11 @@ fn a_break(blanks: u8, offset: i8) -> Token<'static>
 fn an_opening(offset: i8, fold: Fold, anchor: Anchor) -> Token<'static>
     ensures { λ r. ⌜ view r ≡ Opening offset fold anchor ⌝ }
 {
-    Token::Opening { offset, fold, anchor }
+    Token::Opening {
+        offset,
+        fold,
+        anchor,
+    }
 }
 
 fn an_ending() -> Token<'static>

@@ -22,7 +22,15 @@ impl<S: Sink> DirectJob<S> {
         ensures law { λ r. ⌜ ((s : Start) (calls : List Call) → Stands s calls (seen (S·Sink .text) (S·Sink .rule) self) → Whole-exactly s calls (r .outcome)) ⌝ }
     {
         let outcome = self.close();
-        let DirectJob { sink, printer: _, number: _, given: _, blocks: _, depth: _, fault: _ } = self;
+        let DirectJob {
+            sink,
+            printer: _,
+            number: _,
+            given: _,
+            blocks: _,
+            depth: _,
+            fault: _,
+        } = self;
         Drained { sink, outcome }
     }
 
@@ -48,11 +56,17 @@ impl<S: Sink> DirectJob<S> {
             return Err(fault);
         }
         if self.depth > 0 {
-            return Err(DirectFault::Unended { token: self.given as u64 });
+            return Err(DirectFault::Unended {
+                token: self.given as u64,
+            });
         }
         self.printer.finish(&mut self.sink)?;
         let bytes = self.sink.len().saturating_sub(self.printer.older());
-        Ok(Outcome::Whole { bytes, newlines: self.printer.newlines(), widest: self.printer.widest() })
+        Ok(Outcome::Whole {
+            bytes,
+            newlines: self.printer.newlines(),
+            widest: self.printer.widest(),
+        })
     }
 }
 

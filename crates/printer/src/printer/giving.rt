@@ -8,10 +8,10 @@ ghost use Rattle.layout.specs.View.{view};
 ghost use Rattle.layout.specs.Layout.{Pen as LayoutPen, start};
 ghost use Rattle.printer.specs.Printing.{Prints};
 ghost use Rattle.printer.specs.Giving.{Room, Next, Given, Ended, Finished};
-use crate::fault::at_token;
 use crate::fault::AtToken;
 use crate::fault::PrinterFault;
 use crate::fault::PrinterFaultFromSink;
+use crate::fault::at_token;
 use crate::printer::Printer;
 use layout::margin::Margin;
 use layout::token::Token;
@@ -28,7 +28,12 @@ impl Printer {
         ensures prints { λ r. ⌜ Prints (margin .columns) start [] 0 [] r ⌝ }
         ensures older { λ r. ⌜ r .older ≡ older ⌝ }
     {
-        Printer { scan: Scan::new(), pen: Pen::new(margin), passed: 0, older }
+        Printer {
+            scan: Scan::new(),
+            pen: Pen::new(margin),
+            passed: 0,
+            older,
+        }
     }
 
     // A token comes.
@@ -62,7 +67,11 @@ impl Printer {
         match token {
             Token::Text(bytes) => self.scan.push_text(bytes),
             Token::Break { blanks, offset } => self.scan.push_break(blanks, offset),
-            Token::Opening { offset, fold, anchor } => self.scan.push_opening(offset, fold, anchor),
+            Token::Opening {
+                offset,
+                fold,
+                anchor,
+            } => self.scan.push_opening(offset, fold, anchor),
             Token::Ending => self.scan.push_ending(),
         }
     }
@@ -72,7 +81,9 @@ impl Printer {
         ensures { λ r. ⌜ ((m : ℕ) (pen : LayoutPen) (h : List LayoutToken) (number : ℕ) (out : List ℕ) → Prints m pen h number out (now (self .entry)) → Room h number r) ⌝ }
     {
         if self.scan.count() >= MOST {
-            return Err(PrinterFault::Full { token: self.passed.saturating_add(384) });
+            return Err(PrinterFault::Full {
+                token: self.passed.saturating_add(384),
+            });
         }
         Ok(())
     }

@@ -12,10 +12,10 @@ ghost use Rattle.stream.specs.Recorded.{shape};
 ghost use Rattle.scan.specs.Holding.{Holds};
 ghost use Rattle.pen.specs.At.{At};
 ghost use Rattle.printer.specs.Printing.{Prints, Turned, Moved, Stepped, Advanced, Passes};
-use crate::fault::at_token;
 use crate::fault::AtToken;
 use crate::fault::PrinterFault;
 use crate::fault::PrinterFaultFromSink;
+use crate::fault::at_token;
 use crate::printer::Printer;
 use crate::write::write_both;
 use crate::write::write_breaking;
@@ -76,13 +76,22 @@ impl Printer {
             Extent::Known(size) => Turn::Pass(slot.token, self.pen.fits(size)),
             Extent::Waiting => {
                 let fits = self.pen.fits(self.scan.width());
-                if over || !fits { Turn::Pass(slot.token, fits) } else { Turn::Wait }
+                if over || !fits {
+                    Turn::Pass(slot.token, fits)
+                } else {
+                    Turn::Wait
+                }
             }
         }
     }
 
     // Writes the first token, and moves the pen on.
-    fn write_first<S: Sink>(&mut self, sink: &mut S, token: Held, fits: bool) -> Result<(), SinkFault>
+    fn write_first<S: Sink>(
+        &mut self,
+        sink: &mut S,
+        token: Held,
+        fits: bool,
+    ) -> Result<(), SinkFault>
         ensures rule { λ _. ⌜ S·Sink .rule (now (sink .exit)) ≡ S·Sink .rule (now (sink .entry)) ⌝ }
         ensures later { λ _. ⌜ S·Sink .later (now (sink .entry)) (now (sink .exit)) ⌝ }
         ensures older { λ _. ⌜ now (self .exit) .older ≡ now (self .entry) .older ⌝ }
@@ -91,7 +100,11 @@ impl Printer {
         match token {
             Held::Text(n) => self.write_text(sink, n),
             Held::Break { blanks, offset } => self.write_break(sink, blanks, offset, fits),
-            Held::Opening { offset, fold, anchor } => {
+            Held::Opening {
+                offset,
+                fold,
+                anchor,
+            } => {
                 self.pen.open_block(offset, fold, anchor, fits);
                 Ok(())
             }
@@ -116,7 +129,13 @@ impl Printer {
     }
 
     // Decides how a Break is written, and writes it.
-    fn write_break<S: Sink>(&mut self, sink: &mut S, blanks: u8, offset: i8, fits: bool) -> Result<(), SinkFault>
+    fn write_break<S: Sink>(
+        &mut self,
+        sink: &mut S,
+        blanks: u8,
+        offset: i8,
+        fits: bool,
+    ) -> Result<(), SinkFault>
         ensures rule { λ _. ⌜ S·Sink .rule (now (sink .exit)) ≡ S·Sink .rule (now (sink .entry)) ⌝ }
         ensures later { λ _. ⌜ S·Sink .later (now (sink .entry)) (now (sink .exit)) ⌝ }
         ensures older { λ _. ⌜ now (self .exit) .older ≡ now (self .entry) .older ⌝ }

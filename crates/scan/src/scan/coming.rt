@@ -24,8 +24,15 @@ impl Scan {
     pub fn new() -> Scan
         ensures { λ r. ⌜ Holds 0 0 [] r ⌝ }
     {
-        let slot = Slot { token: Held::Ending, extent: Extent::Waiting };
-        let place = Place { serial: 0, since: 0, depth: 0 };
+        let slot = Slot {
+            token: Held::Ending,
+            extent: Extent::Waiting,
+        };
+        let place = Place {
+            serial: 0,
+            since: 0,
+            depth: 0,
+        };
         Scan {
             slots: [slot; 384],
             slot_ring: Ring::empty(),
@@ -45,7 +52,10 @@ impl Scan {
         ensures { λ _. ⌜ ((k d : ℕ) (h : List Token) → Holds k d h (now (self .entry)) → length h < 384 → length (texts h) + length (now (bytes .entry)) ≤ 512 → widths h + length (now (bytes .entry)) < 65536 → Holds k d (h ++ Text (now (bytes .entry)) ∷ []) (now (self .exit))) ⌝ }
     {
         let width = bytes.len().min(512) as u16;
-        let slot = Slot { token: Held::Text(width), extent: Extent::Known(0) };
+        let slot = Slot {
+            token: Held::Text(width),
+            extent: Extent::Known(0),
+        };
         queue::push_back(&mut self.slots, &mut self.slot_ring, slot);
         queue::push_all(&mut self.texts, &mut self.text_ring, bytes);
         self.total = self.total.wrapping_add(width);
@@ -57,7 +67,10 @@ impl Scan {
     {
         self.settle();
         let place = self.next_place();
-        let slot = Slot { token: Held::Break { blanks, offset }, extent: Extent::Waiting };
+        let slot = Slot {
+            token: Held::Break { blanks, offset },
+            extent: Extent::Waiting,
+        };
         queue::push_back(&mut self.slots, &mut self.slot_ring, slot);
         queue::push_back(&mut self.places, &mut self.place_ring, place);
         self.total = self.total.wrapping_add(blanks as u16);
@@ -68,7 +81,14 @@ impl Scan {
         ensures { λ _. ⌜ ((k d : ℕ) (h : List Token) → Holds k d h (now (self .entry)) → length h < 384 → nest d h < 255 → Holds k d (h ++ Opening offset fold anchor ∷ []) (now (self .exit))) ⌝ }
     {
         let place = self.next_place();
-        let slot = Slot { token: Held::Opening { offset, fold, anchor }, extent: Extent::Waiting };
+        let slot = Slot {
+            token: Held::Opening {
+                offset,
+                fold,
+                anchor,
+            },
+            extent: Extent::Waiting,
+        };
         queue::push_back(&mut self.slots, &mut self.slot_ring, slot);
         queue::push_back(&mut self.places, &mut self.place_ring, place);
         self.depth = self.depth.saturating_add(1);
@@ -78,7 +98,10 @@ impl Scan {
     pub fn push_ending(&mut self)
         ensures { λ _. ⌜ ((k d : ℕ) (h : List Token) → Holds k d h (now (self .entry)) → length h < 384 → Holds k d (h ++ Ending ∷ []) (now (self .exit))) ⌝ }
     {
-        let slot = Slot { token: Held::Ending, extent: Extent::Known(0) };
+        let slot = Slot {
+            token: Held::Ending,
+            extent: Extent::Known(0),
+        };
         queue::push_back(&mut self.slots, &mut self.slot_ring, slot);
         self.depth = self.depth.saturating_sub(1);
     }
@@ -88,7 +111,11 @@ impl Scan {
         ensures { λ r. ⌜ ((k b d : ℕ) (h : List Token) → Counts k b d h (now (self .entry)) → length (held (now (self .entry) .slots) (now (self .entry) .«slot_ring»)) ≡ length h → r ≡ place (k + length h) (b + widths h) (nest d h)) ⌝ }
     {
         let held = queue::count(&self.slots, &self.slot_ring) as u16;
-        Place { serial: self.serial.wrapping_add(held), since: self.total, depth: self.depth }
+        Place {
+            serial: self.serial.wrapping_add(held),
+            since: self.total,
+            depth: self.depth,
+        }
     }
 
     // Settles every token that a Break is now the reach of.
@@ -113,7 +140,10 @@ impl Scan {
         let at = place.serial.wrapping_sub(self.serial) as usize;
         let size = self.total.wrapping_sub(place.since);
         if let Some(slot) = queue::get(&self.slots, &self.slot_ring, at) {
-            let known = Slot { token: slot.token, extent: Extent::Known(size) };
+            let known = Slot {
+                token: slot.token,
+                extent: Extent::Known(size),
+            };
             queue::put(&mut self.slots, &self.slot_ring, at, known);
         }
         true

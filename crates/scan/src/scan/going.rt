@@ -73,8 +73,15 @@ fn bytes_of(token: Held) -> usize
 {
     match token {
         Held::Text(n) => n as usize,
-        Held::Break { blanks: _, offset: _ } => 0,
-        Held::Opening { offset: _, fold: _, anchor: _ } => 0,
+        Held::Break {
+            blanks: _,
+            offset: _,
+        } => 0,
+        Held::Opening {
+            offset: _,
+            fold: _,
+            anchor: _,
+        } => 0,
         Held::Ending => 0,
     }
 }
@@ -86,7 +93,11 @@ fn columns_of(token: Held) -> u16
     match token {
         Held::Text(n) => n,
         Held::Break { blanks, offset: _ } => blanks as u16,
-        Held::Opening { offset: _, fold: _, anchor: _ } => 0,
+        Held::Opening {
+            offset: _,
+            fold: _,
+            anchor: _,
+        } => 0,
         Held::Ending => 0,
     }
 }

@@ -1,4 +1,4 @@
-//! How a slip is filled: a newline starts the next row, and any other byte goes behind the line of the last.
+// How a slip is filled: a newline starts the next row, and any other byte goes behind the line of the last.
 
 ghost use Rattle.sink.specs.SlipLaws.{textOf, ruleOf, Later, slip-laws};
 use super::ROWS;

@@ -1,4 +1,4 @@
-//! How a slip is read: line by line.
+// How a slip is read: line by line.
 
 ghost use mathlib.Core.List.{[]};
 ghost use mathlib.Core.Path.{_≡_};
@@ -10,7 +10,7 @@ ghost use Rattle.sink.specs.SlipLaws.{textOf};
 use super::Slip;
 
 impl Slip {
-    /// The i-th line of the text, if it has so many.
+    // The i-th line of the text, if it has so many.
     pub fn row(&self, i: usize) -> Option<&[u8]>
         ensures { λ r. ⌜ BySome r (length (lines (textOf (now (self .entry)))) ≤ i) (λ s. (i < length (lines (textOf (now (self .entry))))) × (now s ≡ getD (lines (textOf (now (self .entry)))) i [])) ⌝ }
     {

@@ -18,7 +18,9 @@ returns-in-Break-write g c =
       later = first .later;
       writes = record {
         stands = stands-front (m .rule s) beg (m .text s) xs ys (m .text (c .write .last .sink)) (c .args .older) _ (m .laws .held s) (first .cases) (first .text);
-        cases = cut-front (m .rule s) beg (m .text s) xs ys (c .args .older) _ (m .laws .held s) (first .cases) } })
+        cases = cut-front (m .rule s) beg (m .text s) xs ys (c .args .older) _ (m .laws .held s) (first .cases);
+      };
+    })
 
 pub returns : need.returns
 returns g c =
@@ -35,4 +37,6 @@ returns g c =
       later = m .laws .goes _ _ _ (first .later) (rest .later);
       writes = record {
         stands = stands-behind (m .rule s) (m .rule t) beg (m .text s) xs ys (m .text t) (first .rule) (first .cases) (first .text) _ (rest .text);
-        cases = cases-behind (m .rule s) (m .rule t) beg (m .text s) xs ys (m .text t) (first .rule) (first .cases) (first .text) _ _ (rest .cases) } }
+        cases = cases-behind (m .rule s) (m .rule t) beg (m .text s) xs ys (m .text t) (first .rule) (first .cases) (first .text) _ _ (rest .cases);
+      };
+    }

@@ -12,5 +12,6 @@ returns g c =
     record {
       later = c .put .ensures .later;
       stands = λ s calls st. c .put .ensures .stands s calls (break-call (c .args .blanks) (c .args .offset)) st
-        (ap (λ (o : ℤ). Break (c .args .blanks) o) (sym z) ∙ sym (c .a-break .ensures))
-        (ap (λ (o : ℤ). in-range (break-call (c .args .blanks) o)) (sym z) ∙ sym (c .is-break .ensures)) tt }
+          (ap (λ (o : ℤ). Break (c .args .blanks) o) (sym z) ∙ sym (c .a-break .ensures))
+          (ap (λ (o : ℤ). in-range (break-call (c .args .blanks) o)) (sym z) ∙ sym (c .is-break .ensures)) tt;
+    }

@@ -8,4 +8,5 @@ returns g c =
       rule = e .rule;
       later = e .later;
       drains = λ s calls st. e .closes s calls st;
-      law = λ s calls st. whole-exactly s calls _ (st .opened .beginnings) (e .closes s calls st .0) }
+      law = λ s calls st. whole-exactly s calls _ (st .opened .beginnings) (e .closes s calls st .0);
+    }

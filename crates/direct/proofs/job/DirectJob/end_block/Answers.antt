@@ -27,11 +27,12 @@ returns-then-not-meets g c =
     record {
       later = subst (λ x. k .later (c .args .self .now .sink) x) (sym (e .sink)) (k .laws .stays (c .args .self .now .sink));
       stands = λ s calls st.
-        let rd = e .stands s calls st in
-        let ts = rd .0 in
-        let no : meets (opened ts) (s .job) (c .args .receipt .job) (c .args .receipt .token) ≡ false = sym (meets-as _ _ _ _ _ _ (rd .5) (rd .3 .job)) ∙ (sym (c .meets .ensures) ∙ c .if-not-meets .taken) in
-        next-refused s calls d _ ts (ReceiptFault (length ts)) _ _ (rd .1) (opened-as s v _ (rd .3) refl refl refl) (refused-receipt (s .job) ts d (rd .2) refl no)
-          (record { fault = ap (λ (n : ℕ). Some (ReceiptFault n)) (rd .4 .given); stands = rd .4 .text }) (ap ReceiptFault (rd .4 .given)) (e .sink) }
+          let rd = e .stands s calls st in
+          let ts = rd .0 in
+          let no : meets (opened ts) (s .job) (c .args .receipt .job) (c .args .receipt .token) ≡ false = sym (meets-as _ _ _ _ _ _ (rd .5) (rd .3 .job)) ∙ (sym (c .meets .ensures) ∙ c .if-not-meets .taken) in
+          next-refused s calls d _ ts (ReceiptFault (length ts)) _ _ (rd .1) (opened-as s v _ (rd .3) refl refl refl) (refused-receipt (s .job) ts d (rd .2) refl no)
+          (record { fault = ap (λ (n : ℕ). Some (ReceiptFault n)) (rd .4 .given); stands = rd .4 .text }) (ap ReceiptFault (rd .4 .given)) (e .sink);
+    }
 
 pub returns-in-Break-take : need.returns-in-Break-take
 returns-in-Break-take g c =
@@ -45,12 +46,13 @@ returns-in-Break-take g c =
     rw (p .1, p .2) (record {
       later = subst (λ x. k .later x (c .take .last .self .sink)) (e .sink) (t .later);
       stands = λ s calls st.
-        let rd = e .stands s calls st in
-        let ts = rd .0 in
-        let yes : meets (opened ts) (s .job) (c .args .receipt .job) (c .args .receipt .token) ≡ true = sym (meets-as _ _ _ _ _ _ (rd .5) (rd .3 .job)) ∙ (sym (c .meets .ensures) ∙ c .if-not-meets .left) in
-        let l = t .lays s ts (rd .3) (rd .4) (rd .2, subst (Fit-token ts) (sym is) tt) in
-        next-laid s calls d _ ts (view (c .an-ending .result)) _ _ (rd .1) (t .opened s (rd .3)) (refused-none (s .job) ts d (rd .2) refl yes refl) (sym is)
-          (by-broken s ts _ v _ _ (l .0) (l .1)) (l .1) })
+          let rd = e .stands s calls st in
+          let ts = rd .0 in
+          let yes : meets (opened ts) (s .job) (c .args .receipt .job) (c .args .receipt .token) ≡ true = sym (meets-as _ _ _ _ _ _ (rd .5) (rd .3 .job)) ∙ (sym (c .meets .ensures) ∙ c .if-not-meets .left) in
+          let l = t .lays s ts (rd .3) (rd .4) (rd .2, subst (Fit-token ts) (sym is) tt) in
+          next-laid s calls d _ ts (view (c .an-ending .result)) _ _ (rd .1) (t .opened s (rd .3)) (refused-none (s .job) ts d (rd .2) refl yes refl) (sym is)
+          (by-broken s ts _ v _ _ (l .0) (l .1)) (l .1);
+    })
 
 pub returns : need.returns
 returns g c =
@@ -66,11 +68,12 @@ returns g c =
     record {
       later = subst (λ x. k .later x (c .take .last .self .sink)) (e .sink) (t .later);
       stands = λ s calls st.
-        let rd = e .stands s calls st in
-        let ts = rd .0 in
-        let yes : meets (opened ts) (s .job) (c .args .receipt .job) (c .args .receipt .token) ≡ true = sym (meets-as _ _ _ _ _ _ (rd .5) (rd .3 .job)) ∙ (sym (c .meets .ensures) ∙ c .if-not-meets .left) in
-        let l = t .lays s ts (rd .3) (rd .4) (rd .2, subst (Fit-token ts) (sym is) tt) in
-        let table : w .blocks ≡ opened ts = ap (λ (xs : List ℕ). reverse (take (j .depth) xs)) (t .table .0) ∙ (ap (λ (n : ℕ). reverse (take n (c .ready .last .self .blocks))) (t .table .1) ∙ rd .5) in
-        next-laid s calls d _ ts (view (c .an-ending .result)) _ _ (rd .1) (opened-as s w _ (t .opened s (rd .3)) refl refl refl) (refused-none (s .job) ts d (rd .2) refl yes refl) (sym is)
+          let rd = e .stands s calls st in
+          let ts = rd .0 in
+          let yes : meets (opened ts) (s .job) (c .args .receipt .job) (c .args .receipt .token) ≡ true = sym (meets-as _ _ _ _ _ _ (rd .5) (rd .3 .job)) ∙ (sym (c .meets .ensures) ∙ c .if-not-meets .left) in
+          let l = t .lays s ts (rd .3) (rd .4) (rd .2, subst (Fit-token ts) (sym is) tt) in
+          let table : w .blocks ≡ opened ts = ap (λ (xs : List ℕ). reverse (take (j .depth) xs)) (t .table .0) ∙ (ap (λ (n : ℕ). reverse (take n (c .ready .last .self .blocks))) (t .table .1) ∙ rd .5) in
+          next-laid s calls d _ ts (view (c .an-ending .result)) _ _ (rd .1) (opened-as s w _ (t .opened s (rd .3)) refl refl refl) (refused-none (s .job) ts d (rd .2) refl yes refl) (sym is)
           (by-going s ts _ v w _ (l .0) (l .1) (record { text = refl; printer = refl; given = refl; fault = refl })
-            (turned-less (j .blocks) (j .depth) _ deep (c .saturating-sub-self .ensures) ∙ (ap without-first table ∙ sym (ap (λ (x : Token). opened (ts ++ x ∷ [])) is ∙ opened-push ts Ending)))) (l .1) }
+          (turned-less (j .blocks) (j .depth) _ deep (c .saturating-sub-self .ensures) ∙ (ap without-first table ∙ sym (ap (λ (x : Token). opened (ts ++ x ∷ [])) is ∙ opened-push ts Ending)))) (l .1);
+    }

@@ -29,10 +29,11 @@ returns-in-Break-give g c =
       later = e .later;
       frame = (refl, refl, refl, refl, e .older);
       lays = λ s ts o go f.
-        let few = f .0 in
-        lay-err s ts (view (c .args .token)) v w Same (c .in-Break-give .field-0 .0) o go (stood s ts v o go (k .laws .held (c .args .self .now .sink)))
+          let few = f .0 in
+          lay-err s ts (view (c .args .token)) v w Same (c .in-Break-give .field-0 .0) o go (stood s ts v o go (k .laws .held (c .args .self .now .sink)))
           (e .gives (s .margin) _ _ _ _ (go .prints) (narrow-fit (s .margin) ts (o .most)) (next-fit (s .margin) ts _ (f .1)))
-          (λ same. ap (k .text) (same .1)) (omega arith) })
+          (λ same. ap (k .text) (same .1)) (omega arith);
+    })
 
 pub returns : need.returns
 returns g c =
@@ -46,8 +47,9 @@ returns g c =
       later = e .later;
       frame = (refl, refl, refl, refl, e .older);
       lays = λ s ts o go f.
-        let few = f .0 in
-        let n = go .given in
-        lay-ok s ts (view (c .args .token)) v _ Same o go
+          let few = f .0 in
+          let n = go .given in
+          lay-ok s ts (view (c .args .token)) v _ Same o go
           (e .gives (s .margin) _ _ _ _ (go .prints) (narrow-fit (s .margin) ts (o .most)) (next-fit (s .margin) ts _ (f .1)))
-          refl (omega (arith, c .saturating-add .ensures, c .min-self .ensures)) }
+          refl (omega (arith, c .saturating-add .ensures, c .min-self .ensures));
+    }

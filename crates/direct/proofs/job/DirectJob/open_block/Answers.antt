@@ -32,9 +32,10 @@ returns-then-not-is-near g c =
     record {
       later = subst (λ x. k .later (c .args .self .now .sink) x) (sym (e .sink)) (k .laws .stays (c .args .self .now .sink));
       stands = λ s calls st.
-        let rd = e .stands s calls st in
-        let ts = rd .0 in
-        received-err s calls d v _ _ (next-refused s calls d v ts (Range (length ts)) _ _ (rd .1) (rd .3) (refused-range (s .job) ts d (rd .2) far) (rd .4, rd .5) (ap Range (rd .4 .given)) (e .sink)) }
+          let rd = e .stands s calls st in
+          let ts = rd .0 in
+          received-err s calls d v _ _ (next-refused s calls d v ts (Range (length ts)) _ _ (rd .1) (rd .3) (refused-range (s .job) ts d (rd .2) far) (rd .4, rd .5) (ap Range (rd .4 .given)) (e .sink));
+    }
 
 pub returns-then-self-ge64 : need.returns-then-self-ge64
 returns-then-self-ge64 g c =
@@ -48,11 +49,12 @@ returns-then-self-ge64 g c =
     record {
       later = subst (λ x. k .later (c .args .self .now .sink) x) (sym (e .sink)) (k .laws .stays (c .args .self .now .sink));
       stands = λ s calls st.
-        let rd = e .stands s calls st in
-        let ts = rd .0 in
-        let n : length (opened ts) ≡ j .depth = ap length (sym (rd .5)) ∙ turned-length (j .blocks) (j .depth) deep in
-        let full : leb (length (opened ts)) 63 ≡ false = lt-leb (length (opened ts)) 63 (omega (arith, c .if-self-ge64 .taken)) in
-        received-err s calls d v _ _ (next-refused s calls d v ts (Blocks (length ts)) _ _ (rd .1) (rd .3) (refused-blocks (s .job) ts d (rd .2) close refl full) (rd .4, rd .5) (ap Blocks (rd .4 .given)) (e .sink)) }
+          let rd = e .stands s calls st in
+          let ts = rd .0 in
+          let n : length (opened ts) ≡ j .depth = ap length (sym (rd .5)) ∙ turned-length (j .blocks) (j .depth) deep in
+          let full : leb (length (opened ts)) 63 ≡ false = lt-leb (length (opened ts)) 63 (omega (arith, c .if-self-ge64 .taken)) in
+          received-err s calls d v _ _ (next-refused s calls d v ts (Blocks (length ts)) _ _ (rd .1) (rd .3) (refused-blocks (s .job) ts d (rd .2) close refl full) (rd .4, rd .5) (ap Blocks (rd .4 .given)) (e .sink));
+    }
 
 pub returns-in-Break-take : need.returns-in-Break-take
 returns-in-Break-take g c =
@@ -70,15 +72,16 @@ returns-in-Break-take g c =
     rw (p .1, p .2) (record {
       later = subst (λ x. k .later x (c .take .last .self .sink)) (e .sink) (t .later);
       stands = λ s calls st.
-        let rd = e .stands s calls st in
-        let ts = rd .0 in
-        let n : length (opened ts) ≡ j .depth = ap length (sym (rd .5)) ∙ turned-length (j .blocks) (j .depth) deep in
-        let m = opened-count ts in
-        let low : nest 0 ts < 64 = omega (arith, c .if-self-ge64 .left) in
-        let few : leb (length (opened ts)) 63 ≡ true = le-leb (length (opened ts)) 63 (omega arith) in
-        let l = t .lays s ts (rd .3) (rd .4) (rd .2, subst (Fit-token ts) (sym is) low) in
-        received-err s calls d _ _ _ (next-laid s calls d _ ts (view (c .an-opening .result)) _ _ (rd .1) (t .opened s (rd .3)) (refused-none (s .job) ts d (rd .2) close refl few) (sym is)
-          (by-broken s ts _ v _ _ (l .0) (l .1)) (l .1)) })
+          let rd = e .stands s calls st in
+          let ts = rd .0 in
+          let n : length (opened ts) ≡ j .depth = ap length (sym (rd .5)) ∙ turned-length (j .blocks) (j .depth) deep in
+          let m = opened-count ts in
+          let low : nest 0 ts < 64 = omega (arith, c .if-self-ge64 .left) in
+          let few : leb (length (opened ts)) 63 ≡ true = le-leb (length (opened ts)) 63 (omega arith) in
+          let l = t .lays s ts (rd .3) (rd .4) (rd .2, subst (Fit-token ts) (sym is) low) in
+          received-err s calls d _ _ _ (next-laid s calls d _ ts (view (c .an-opening .result)) _ _ (rd .1) (t .opened s (rd .3)) (refused-none (s .job) ts d (rd .2) close refl few) (sym is)
+          (by-broken s ts _ v _ _ (l .0) (l .1)) (l .1));
+    })
 
 pub returns : need.returns
 returns g c =
@@ -98,17 +101,18 @@ returns g c =
     record {
       later = subst (λ x. k .later x (c .take .last .self .sink)) (e .sink) (t .later);
       stands = λ s calls st.
-        let rd = e .stands s calls st in
-        let ts = rd .0 in
-        let n : length (opened ts) ≡ i .depth = ap length (sym (rd .5)) ∙ turned-length (i .blocks) (i .depth) deep in
-        let m = opened-count ts in
-        let dep = t .table .1 in
-        let low : nest 0 ts < 64 = omega (arith, c .if-self-ge64 .left) in
-        let few : leb (length (opened ts)) 63 ≡ true = le-leb (length (opened ts)) 63 (omega arith) in
-        let l = t .lays s ts (rd .3) (rd .4) (rd .2, subst (Fit-token ts) (sym is) low) in
-        let table : w .blocks ≡ opened ts = ap (λ (xs : List ℕ). reverse (take (j .depth) xs)) (t .table .0) ∙ (ap (λ (q : ℕ). reverse (take q (i .blocks))) dep ∙ rd .5) in
-        received-ok s calls d _ _ ts _
+          let rd = e .stands s calls st in
+          let ts = rd .0 in
+          let n : length (opened ts) ≡ i .depth = ap length (sym (rd .5)) ∙ turned-length (i .blocks) (i .depth) deep in
+          let m = opened-count ts in
+          let dep = t .table .1 in
+          let low : nest 0 ts < 64 = omega (arith, c .if-self-ge64 .left) in
+          let few : leb (length (opened ts)) 63 ≡ true = le-leb (length (opened ts)) 63 (omega arith) in
+          let l = t .lays s ts (rd .3) (rd .4) (rd .2, subst (Fit-token ts) (sym is) low) in
+          let table : w .blocks ≡ opened ts = ap (λ (xs : List ℕ). reverse (take (j .depth) xs)) (t .table .0) ∙ (ap (λ (q : ℕ). reverse (take q (i .blocks))) dep ∙ rd .5) in
+          received-ok s calls d _ _ ts _
           (next-laid s calls d _ ts (view (c .an-opening .result)) _ _ (rd .1) (opened-as s w _ (t .opened s (rd .3)) refl refl refl) (refused-none (s .job) ts d (rd .2) close refl few) (sym is)
-            (by-going s ts _ v w _ (l .0) (l .1) (record { text = refl; printer = refl; given = refl; fault = refl })
-              (turned-set (j .blocks) (j .depth) (i .given) (omega arith) ∙ (ap (λ (xs : List ℕ). i .given ∷ xs) table ∙ (ap (λ (q : ℕ). q ∷ opened ts) (rd .4 .given ∙ (let zz : length ts ≡ 0 + length ts = omega arith in zz)) ∙ sym (ap (λ (x : Token). opened (ts ++ x ∷ [])) is ∙ opened-push ts (Opening (c .args .offset) (c .args .fold) (c .args .anchor))))))) (l .1))
-          (rd .1) (t .opened s (rd .3) .job) (rd .4 .given) }
+          (by-going s ts _ v w _ (l .0) (l .1) (record { text = refl; printer = refl; given = refl; fault = refl })
+          (turned-set (j .blocks) (j .depth) (i .given) (omega arith) ∙ (ap (λ (xs : List ℕ). i .given ∷ xs) table ∙ (ap (λ (q : ℕ). q ∷ opened ts) (rd .4 .given ∙ (let zz : length ts ≡ 0 + length ts = omega arith in zz)) ∙ sym (ap (λ (x : Token). opened (ts ++ x ∷ [])) is ∙ opened-push ts (Opening (c .args .offset) (c .args .fold) (c .args .anchor))))))) (l .1))
+          (rd .1) (t .opened s (rd .3) .job) (rd .4 .given);
+    }

@@ -15,7 +15,8 @@ returns-in-Ok g c =
       opened = λ s o. opened-as s v _ o (e .rule) (e .frame .0) (e .frame .4);
       later = e .later;
       table = (e .frame .1, e .frame .2);
-      lays = λ s ts o go f. laid-ok s ts _ v _ (e .lays s ts o go f) (same-table _ _ _ _ (e .frame .1) (e .frame .2)) }
+      lays = λ s ts o go f. laid-ok s ts _ v _ (e .lays s ts o go f) (same-table _ _ _ _ (e .frame .1) (e .frame .2));
+    }
 
 pub returns-in-Err : need.returns-in-Err
 returns-in-Err g c =
@@ -26,4 +27,5 @@ returns-in-Err g c =
       opened = λ s o. opened-as s v _ o (e .rule) (e .frame .0) (e .frame .4);
       later = e .later;
       table = (e .frame .1, e .frame .2);
-      lays = λ s ts o go f. laid-err s ts _ v (seen (k .text) (k .rule) (c .lay .last .self)) _ _ (e .lays s ts o go f) refl refl }
+      lays = λ s ts o go f. laid-err s ts _ v (seen (k .text) (k .rule) (c .lay .last .self)) _ _ (e .lays s ts o go f) refl refl;
+    }

@@ -21,8 +21,9 @@ returns g c =
       later = e .later;
       older = refl;
       ends = λ m pen h number out pr.
-        let n = pr .passed in
-        let some : 0 < number = omega (arith, c .if-self-eq0 .left) in
-        ended-some m number out (k .rule s) (k .text s) (c .args .self .now .older) _ _ some fit
+          let n = pr .passed in
+          let some : 0 < number = omega (arith, c .if-self-eq0 .left) in
+          ended-some m number out (k .rule s) (k .text s) (c .args .self .now .older) _ _ some fit
           (e .text ∙ ap (λ (xs : List ℕ). k .text s ++ xs) (kept-all (k .rule s .admits) (k .laws .beginnings s) (k .text s) (10 ∷ []) fit))
-          (_, c .broke .ensures m pen out (pr .stands)) }
+          (_, c .broke .ensures m pen out (pr .stands));
+    }

@@ -14,7 +14,8 @@ returns-in-Break-pass-all g c =
       rule = e .rule;
       later = e .later;
       older = e .older;
-      finishes = λ m pen h number out pr. finished-cut m pen h number out (k .rule s) (k .text s) (c .args .self .now .older) _ (c .pass-all .last .self) (c .pass-all .last .self .pen) _ (k .laws .beginnings s) (k .laws .held s) (e .passes m pen h number out pr) })
+      finishes = λ m pen h number out pr. finished-cut m pen h number out (k .rule s) (k .text s) (c .args .self .now .older) _ (c .pass-all .last .self) (c .pass-all .last .self .pen) _ (k .laws .beginnings s) (k .laws .held s) (e .passes m pen h number out pr);
+    })
 
 pub returns : need.returns
 returns g c =
@@ -27,6 +28,7 @@ returns g c =
       later = k .laws .goes _ _ _ (e .later) (f .later);
       older = f .older ∙ e .older;
       finishes = λ m pen h number out pr.
-        let ps = e .passes m pen h number out pr in
-        finished-end m pen h number out (k .rule s) (k .text s) (c .args .self .now .older) (k .text (c .pass-all .last .sink)) _ (c .pass-all .last .self) _ _ (k .laws .beginnings s) ps
-          (ended-as m _ _ (k .rule (c .pass-all .last .sink)) (k .rule s) (k .text (c .pass-all .last .sink)) (c .pass-all .last .self .older) (c .args .self .now .older) _ _ _ (e .rule) (e .older) (f .ends m _ _ _ _ (ps .1))) }
+          let ps = e .passes m pen h number out pr in
+          finished-end m pen h number out (k .rule s) (k .text s) (c .args .self .now .older) (k .text (c .pass-all .last .sink)) _ (c .pass-all .last .self) _ _ (k .laws .beginnings s) ps
+          (ended-as m _ _ (k .rule (c .pass-all .last .sink)) (k .rule s) (k .text (c .pass-all .last .sink)) (c .pass-all .last .self .older) (c .args .self .now .older) _ _ _ (e .rule) (e .older) (f .ends m _ _ _ _ (ps .1)));
+    }

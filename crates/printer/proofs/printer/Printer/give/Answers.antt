@@ -17,7 +17,8 @@ returns-in-Break-room g c =
       rule = refl;
       later = k .laws .stays s;
       older = refl;
-      gives = λ m pen h number out pr narrow next. given-full m pen h number out (view (c .args .token)) (k .rule s) (k .text s) (c .args .self .now .older) (k .text s) (c .args .self .now) _ _ (c .in-Break-room .ensures tt m pen h number out pr) (refl, refl) })
+      gives = λ m pen h number out pr narrow next. given-full m pen h number out (view (c .args .token)) (k .rule s) (k .text s) (c .args .self .now .older) (k .text s) (c .args .self .now) _ _ (c .in-Break-room .ensures tt m pen h number out pr) (refl, refl);
+    })
 
 pub returns : need.returns
 returns g c =
@@ -29,6 +30,7 @@ returns g c =
       later = e .later;
       older = e .older ∙ c .hold .ensures .older;
       gives = λ m pen h number out pr narrow next.
-        let few = c .in-Continue-room .ensures tt m pen h number out pr in
-        given-passes m pen h number out (view (c .args .token)) (k .rule s) (k .text s) (c .args .self .now .older) (k .text (c .pass-all .last .sink)) (c .pass-all .last .self) _ (c .pass-all .result) few
-          (passes-as false m pen (h ++ view (c .args .token) ∷ []) number out (k .rule s) (k .text s) (c .hold .last .self .older) (c .args .self .now .older) (k .text (c .pass-all .last .sink)) (c .pass-all .last .self) (c .pass-all .result) (c .hold .ensures .older) (e .passes m pen _ number out (c .hold .ensures .holds m pen h number out pr few narrow next))) }
+          let few = c .in-Continue-room .ensures tt m pen h number out pr in
+          given-passes m pen h number out (view (c .args .token)) (k .rule s) (k .text s) (c .args .self .now .older) (k .text (c .pass-all .last .sink)) (c .pass-all .last .self) _ (c .pass-all .result) few
+          (passes-as false m pen (h ++ view (c .args .token) ∷ []) number out (k .rule s) (k .text s) (c .hold .last .self .older) (c .args .self .now .older) (k .text (c .pass-all .last .sink)) (c .pass-all .last .self) (c .pass-all .result) (c .hold .ensures .older) (e .passes m pen _ number out (c .hold .ensures .holds m pen h number out pr few narrow next)));
+    }

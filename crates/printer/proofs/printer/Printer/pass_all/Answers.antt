@@ -28,9 +28,10 @@ returns-in-Break-pass-first g c =
       later = k .laws .goes _ _ _ (i .1) (e .later);
       older = e .older ∙ i .2;
       passes = λ m pen h number out pr.
-        let so = i .3 m pen h number out pr in
-        cuts (c .args .over) m pen h number out (k .rule s) (k .text s) (c .args .self .now .older) _ _ _ so (k .laws .beginnings s) (c .pass-first .last .self) _ _
-          (advanced-as (c .args .over) m (so .at) (so .left) (number + length (so .done)) (out ++ joined (so .done)) (k .rule (c .loop .sink)) (k .rule s) (k .text (c .loop .sink)) (c .loop .self .older) (c .args .self .now .older) (k .text (c .pass-first .last .sink)) (c .pass-first .last .self) (Err (c .in-Break-pass-first .field-0 .0)) (Err (c .in-Break-pass-first .field-0 .0)) (i .0) (i .2) refl (e .passes m (so .at) (so .left) _ _ (so .prints))) })
+          let so = i .3 m pen h number out pr in
+          cuts (c .args .over) m pen h number out (k .rule s) (k .text s) (c .args .self .now .older) _ _ _ so (k .laws .beginnings s) (c .pass-first .last .self) _ _
+          (advanced-as (c .args .over) m (so .at) (so .left) (number + length (so .done)) (out ++ joined (so .done)) (k .rule (c .loop .sink)) (k .rule s) (k .text (c .loop .sink)) (c .loop .self .older) (c .args .self .now .older) (k .text (c .pass-first .last .sink)) (c .pass-first .last .self) (Err (c .in-Break-pass-first .field-0 .0)) (Err (c .in-Break-pass-first .field-0 .0)) (i .0) (i .2) refl (e .passes m (so .at) (so .left) _ _ (so .prints)));
+    })
 
 pub returns-then-not-branch : need.returns-then-not-branch
 returns-then-not-branch g c =
@@ -43,23 +44,25 @@ returns-then-not-branch g c =
       later = k .laws .goes _ _ _ (i .1) (e .later);
       older = e .older ∙ i .2;
       passes = λ m pen h number out pr.
-        let so = i .3 m pen h number out pr in
-        let a = advanced-as (c .args .over) m (so .at) (so .left) (number + length (so .done)) (out ++ joined (so .done)) (k .rule (c .loop .sink)) (k .rule s) (k .text (c .loop .sink)) (c .loop .self .older) (c .args .self .now .older) (k .text (c .pass-first .last .sink)) (c .pass-first .last .self) (Ok (c .in-Continue-pass-first .field-0)) (Ok false) (i .0) (i .2) (ap (λ (b : Bool). Ok b) (c .if-not-branch .taken)) (e .passes m (so .at) (so .left) _ _ (so .prints)) in
-        stops (c .args .over) m pen h number out (k .rule s) (k .text s) (c .args .self .now .older) _ _ _ so _ _ (a .0) (a .1) (a .2) }
+          let so = i .3 m pen h number out pr in
+          let a = advanced-as (c .args .over) m (so .at) (so .left) (number + length (so .done)) (out ++ joined (so .done)) (k .rule (c .loop .sink)) (k .rule s) (k .text (c .loop .sink)) (c .loop .self .older) (c .args .self .now .older) (k .text (c .pass-first .last .sink)) (c .pass-first .last .self) (Ok (c .in-Continue-pass-first .field-0)) (Ok false) (i .0) (i .2) (ap (λ (b : Bool). Ok b) (c .if-not-branch .taken)) (e .passes m (so .at) (so .left) _ _ (so .prints)) in
+          stops (c .args .over) m pen h number out (k .rule s) (k .text s) (c .args .self .now .older) _ _ _ so _ _ (a .0) (a .1) (a .2);
+    }
 
 pub loop-again : need.loop-again
 loop-again g c =
     let k = g .S·Sink in
     let s = c .args .sink .now in
     let i = c .loop .inv in
-    let e = c .in-Continue-pass-first .ensures tt in
-    ( e .rule ∙ i .0
-    , k .laws .goes _ _ _ (i .1) (e .later)
-    , e .older ∙ i .2
-    , λ m pen h number out pr.
-        let so = i .3 m pen h number out pr in
-        goes-on (c .args .over) m pen h number out (k .rule s) (k .text s) (c .args .self .now .older) _ _ _ so (c .pass-first .last .self) _
-          (advanced-as (c .args .over) m (so .at) (so .left) (number + length (so .done)) (out ++ joined (so .done)) (k .rule (c .loop .sink)) (k .rule s) (k .text (c .loop .sink)) (c .loop .self .older) (c .args .self .now .older) (k .text (c .pass-first .last .sink)) (c .pass-first .last .self) (Ok (c .in-Continue-pass-first .field-0)) (Ok true) (i .0) (i .2) (ap (λ (b : Bool). Ok b) (c .if-not-branch .left)) (e .passes m (so .at) (so .left) _ _ (so .prints))))
+    let e = c .in-Continue-pass-first .ensures tt in (
+      e .rule ∙ i .0,
+      k .laws .goes _ _ _ (i .1) (e .later),
+      e .older ∙ i .2,
+      λ m pen h number out pr.
+          let so = i .3 m pen h number out pr in
+          goes-on (c .args .over) m pen h number out (k .rule s) (k .text s) (c .args .self .now .older) _ _ _ so (c .pass-first .last .self) _
+          (advanced-as (c .args .over) m (so .at) (so .left) (number + length (so .done)) (out ++ joined (so .done)) (k .rule (c .loop .sink)) (k .rule s) (k .text (c .loop .sink)) (c .loop .self .older) (c .args .self .now .older) (k .text (c .pass-first .last .sink)) (c .pass-first .last .self) (Ok (c .in-Continue-pass-first .field-0)) (Ok true) (i .0) (i .2) (ap (λ (b : Bool). Ok b) (c .if-not-branch .left)) (e .passes m (so .at) (so .left) _ _ (so .prints))),
+    )
 
 pub returns : need.returns
 returns g c =
@@ -71,5 +74,6 @@ returns g c =
       later = i .1;
       older = i .2;
       passes = λ m pen h number out pr.
-        let n = c .count-held .ensures .value _ _ h (pr .scan) in
-        all-passed (c .args .over) m pen h number out (k .rule s) (k .text s) (c .args .self .now .older) _ _ _ (i .3 m pen h number out pr) (omega (arith, c .loop-test .left)) }
+          let n = c .count-held .ensures .value _ _ h (pr .scan) in
+          all-passed (c .args .over) m pen h number out (k .rule s) (k .text s) (c .args .self .now .older) _ _ _ (i .3 m pen h number out pr) (omega (arith, c .loop-test .left));
+    }

@@ -13,7 +13,8 @@ returns-in-rest g c =
       rule = refl;
       later = k .laws .stays (c .args .sink .now);
       older = refl;
-      passes = λ m pen h number out pr. (waits-here (c .args .over) m pen h (c .in-rest .ensures tt m pen h number out pr), refl, pr) }
+      passes = λ m pen h number out pr. (waits-here (c .args .over) m pen h (c .in-rest .ensures tt m pen h number out pr), refl, pr);
+    }
 
 pub returns-in-Break-at-token : need.returns-in-Break-at-token
 returns-in-Break-at-token g c =
@@ -27,8 +28,9 @@ returns-in-Break-at-token g c =
       later = e .later;
       older = e .older;
       passes = λ m pen h number out pr.
-        advance-cut (c .args .over) m pen h number out (c .in-Pass .token) (c .in-Pass .fits) (k .rule s) (k .text s) (c .args .self .now .older) _ (c .args .self .now) _ (c .write-first .result) (was .0) _
-          (c .in-Pass .ensures tt m pen h number out pr) pr (λ t ts. e .writes m pen t ts number out) (was .1) (p .2 ∙ ap (λ (a : AtToken). Sink (a .fault) (a .token)) (was .2)) })
+          advance-cut (c .args .over) m pen h number out (c .in-Pass .token) (c .in-Pass .fits) (k .rule s) (k .text s) (c .args .self .now .older) _ (c .args .self .now) _ (c .write-first .result) (was .0) _
+          (c .in-Pass .ensures tt m pen h number out pr) pr (λ t ts. e .writes m pen t ts number out) (was .1) (p .2 ∙ ap (λ (a : AtToken). Sink (a .fault) (a .token)) (was .2));
+    })
 
 pub returns : need.returns
 returns g c =
@@ -40,7 +42,8 @@ returns g c =
       later = e .later;
       older = e .older;
       passes = λ m pen h number out pr.
-        advance-ok (c .args .over) m pen h number out (c .in-Pass .token) (c .in-Pass .fits) (k .rule s) (k .text s) (c .args .self .now .older) _ (c .args .self .now) (c .write-first .last .self) _ (c .write-first .result)
+          advance-ok (c .args .over) m pen h number out (c .in-Pass .token) (c .in-Pass .fits) (k .rule s) (k .text s) (c .args .self .now .older) _ (c .args .self .now) (c .write-first .last .self) _ (c .write-first .result)
           (k .laws .beginnings s) (c .in-Pass .ensures tt m pen h number out pr) pr (λ t ts. e .writes m pen t ts number out)
           (numbered-ok (c .args .self .now .passed) (c .write-first .result) _ (sym (c .at-token .ensures) ∙ c .in-Continue-at-token .was tt))
-          (c .drop-first .ensures) refl (c .saturating-add-self .ensures) }
+          (c .drop-first .ensures) refl (c .saturating-add-self .ensures);
+    }

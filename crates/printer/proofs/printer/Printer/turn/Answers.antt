@@ -15,11 +15,11 @@ returns-in-Known c m pen h number out pr =
 pub returns-then-not-fits : need.returns-then-not-fits
 returns-then-not-fits c m pen h number out pr =
     turn-waiting _ m pen h (c .in-Some .slot) _ (c .in-Some .ensures tt _ _ h (pr .scan)) (c .in-Waiting .is)
-      (c .fits-fits .ensures m pen out (pr .stands) ∙ ap (λ (n : ℕ). leb (pen .column + n) m) (c .width .ensures _ _ h (pr .scan))) .0
-      (⊎-elim inl (λ p. inr (p .1)) (c .if-not-fits .either))
+    (c .fits-fits .ensures m pen out (pr .stands) ∙ ap (λ (n : ℕ). leb (pen .column + n) m) (c .width .ensures _ _ h (pr .scan))) .0
+    (⊎-elim inl (λ p. inr (p .1)) (c .if-not-fits .either))
 
 pub returns-else-not-fits : need.returns-else-not-fits
 returns-else-not-fits c m pen h number out pr =
     turn-waiting _ m pen h (c .in-Some .slot) _ (c .in-Some .ensures tt _ _ h (pr .scan)) (c .in-Waiting .is)
-      (c .fits-fits .ensures m pen out (pr .stands) ∙ ap (λ (n : ℕ). leb (pen .column + n) m) (c .width .ensures _ _ h (pr .scan))) .1
-      (c .if-not-fits .left .0) (c .if-not-fits .left .1)
+    (c .fits-fits .ensures m pen out (pr .stands) ∙ ap (λ (n : ℕ). leb (pen .column + n) m) (c .width .ensures _ _ h (pr .scan))) .1
+    (c .if-not-fits .left .0) (c .if-not-fits .left .1)

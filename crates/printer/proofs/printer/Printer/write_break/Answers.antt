@@ -21,9 +21,10 @@ returns-in-Break-write-breaking g c =
       later = b .later;
       older = refl;
       writes = λ m pen out at.
-        let is = c .break-as-how .ensures m pen out at ∙ ap (λ (z : ℤ). breaking m pen (c .args .blanks) z (c .args .fits)) (toZ-ofZ w8 (c .args .offset) (c .fits .offset)) in
-        let how = ap bytes-of is ∙ breaking-writes m pen (c .args .blanks) (c .args .offset) (c .args .fits) in
-        record { wrote = wrote-as _ _ _ _ _ _ _ how (b .writes); goes = tt } })
+          let is = c .break-as-how .ensures m pen out at ∙ ap (λ (z : ℤ). breaking m pen (c .args .blanks) z (c .args .fits)) (toZ-ofZ w8 (c .args .offset) (c .fits .offset)) in
+          let how = ap bytes-of is ∙ breaking-writes m pen (c .args .blanks) (c .args .offset) (c .args .fits) in
+          record { wrote = wrote-as _ _ _ _ _ _ _ how (b .writes); goes = tt };
+    })
 
 pub returns : need.returns
 returns g c =
@@ -33,8 +34,10 @@ returns g c =
       later = b .later;
       older = refl;
       writes = λ m pen out at.
-        let is = c .break-as-how .ensures m pen out at ∙ ap (λ (z : ℤ). breaking m pen (c .args .blanks) z (c .args .fits)) (toZ-ofZ w8 (c .args .offset) (c .fits .offset)) in
-        let how = ap bytes-of is ∙ breaking-writes m pen (c .args .blanks) (c .args .offset) (c .args .fits) in
-        record {
-          wrote = wrote-as _ _ _ _ _ _ _ how (b .writes);
-          goes = record { stands = after-break m pen out _ (c .args .blanks) (c .args .offset) (c .args .fits) _ is (c .broke .ensures m pen out at); scan = refl; passed = refl; older = refl } } }
+          let is = c .break-as-how .ensures m pen out at ∙ ap (λ (z : ℤ). breaking m pen (c .args .blanks) z (c .args .fits)) (toZ-ofZ w8 (c .args .offset) (c .fits .offset)) in
+          let how = ap bytes-of is ∙ breaking-writes m pen (c .args .blanks) (c .args .offset) (c .args .fits) in
+          record {
+            wrote = wrote-as _ _ _ _ _ _ _ how (b .writes);
+            goes = record { stands = after-break m pen out _ (c .args .blanks) (c .args .offset) (c .args .fits) _ is (c .broke .ensures m pen out at); scan = refl; passed = refl; older = refl };
+          };
+    }

@@ -17,8 +17,9 @@ returns-in-Break-write-both g c =
       later = b .later;
       older = refl;
       writes = λ m pen bytes ts number out pr e.
-        let runs = c .text .ensures _ _ _ (pr .scan) ∙ take-at bytes (texts ts) (c .args .n) (sym e) in
-        record { wrote = wrote-as _ _ _ _ _ _ _ runs (b .writes); goes = tt } })
+          let runs = c .text .ensures _ _ _ (pr .scan) ∙ take-at bytes (texts ts) (c .args .n) (sym e) in
+          record { wrote = wrote-as _ _ _ _ _ _ _ runs (b .writes); goes = tt };
+    })
 
 pub returns : need.returns
 returns g c =
@@ -28,7 +29,9 @@ returns g c =
       later = b .later;
       older = refl;
       writes = λ m pen bytes ts number out pr e.
-        let runs = c .text .ensures _ _ _ (pr .scan) ∙ take-at bytes (texts ts) (c .args .n) (sym e) in
-        record {
-          wrote = wrote-as _ _ _ _ _ _ _ runs (b .writes);
-          goes = record { stands = c .wrote .ensures m pen out bytes (pr .stands) (sym e) (pr .plain .0); scan = refl; passed = refl; older = refl } } }
+          let runs = c .text .ensures _ _ _ (pr .scan) ∙ take-at bytes (texts ts) (c .args .n) (sym e) in
+          record {
+            wrote = wrote-as _ _ _ _ _ _ _ runs (b .writes);
+            goes = record { stands = c .wrote .ensures m pen out bytes (pr .stands) (sym e) (pr .plain .0); scan = refl; passed = refl; older = refl };
+          };
+    }

@@ -15,8 +15,8 @@ pub returns : need.returns
 returns c k d t ts hold =
     let s = c .args .self .now in
     gone k d t ts s _ (c .in-Some .slot) hold
-      (c .in-Some .ensures tt .holds)
-      (c .drop-front .ensures .holds ∙ ap (λ (n : ℕ). drop n (held (s .places) (s .«place_ring»))) (c .places-of .ensures))
-      (c .drop-front-2 .ensures .holds ∙ ap (λ (n : ℕ). drop n (held (s .texts) (s .«text_ring»))) (c .bytes-of .ensures))
-      (ap (λ (n : ℕ). (s .base + n) % 65536) (c .columns-of .ensures))
-      refl refl refl
+    (c .in-Some .ensures tt .holds)
+    (c .drop-front .ensures .holds ∙ ap (λ (n : ℕ). drop n (held (s .places) (s .«place_ring»))) (c .places-of .ensures))
+    (c .drop-front-2 .ensures .holds ∙ ap (λ (n : ℕ). drop n (held (s .texts) (s .«text_ring»))) (c .bytes-of .ensures))
+    (ap (λ (n : ℕ). (s .base + n) % 65536) (c .columns-of .ensures))
+    refl refl refl

@@ -32,7 +32,7 @@ returns c k d h hold few fit =
     let p = c .push-back .ensures in
     let r = c .push-back-2 .ensures in
     come-break k b d h (c .args .blanks) (c .args .offset) s _ stl
-      (record { serial = refl; gone = refl; total = λ m q. omega arith; texts = sym (append-nil _); depth = refl })
-      fit
-      (pushed _ _ _ _ _ (p .holds) (p .answer) (omega arith) ∙ ap (λ (z : ℤ). held (s .slots) (s .«slot_ring») ++ (record { token = BreakHeld (c .args .blanks) z; extent = Waiting }) ∷ []) (toZ-ofZ w8 (c .args .offset) (c .fits .offset)))
-      (pushed _ _ _ _ _ (r .holds) (r .answer) (omega arith) ∙ ap (λ (x : Place). held (s .places) (s .«place_ring») ++ x ∷ []) place)
+    (record { serial = refl; gone = refl; total = λ m q. omega arith; texts = sym (append-nil _); depth = refl })
+    fit
+    (pushed _ _ _ _ _ (p .holds) (p .answer) (omega arith) ∙ ap (λ (z : ℤ). held (s .slots) (s .«slot_ring») ++ (record { token = BreakHeld (c .args .blanks) z; extent = Waiting }) ∷ []) (toZ-ofZ w8 (c .args .offset) (c .fits .offset)))
+    (pushed _ _ _ _ _ (r .holds) (r .answer) (omega arith) ∙ ap (λ (x : Place). held (s .places) (s .«place_ring») ++ x ∷ []) place)

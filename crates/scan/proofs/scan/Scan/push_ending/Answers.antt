@@ -19,7 +19,7 @@ returns c k d h hold few =
     let p = c .push-back .ensures in
     let room = hold .counts .room in
     come-quiet k d h Ending s _ hold refl
-      (record { serial = refl; gone = refl; total = λ m q. omega arith; texts = sym (append-nil _); depth = c .saturating-sub-self .ensures ∙ sub-one _ })
-      (omega arith)
-      (pushed _ _ _ _ _ (p .holds) (p .answer) (omega arith))
-      (sym (append-nil _))
+    (record { serial = refl; gone = refl; total = λ m q. omega arith; texts = sym (append-nil _); depth = c .saturating-sub-self .ensures ∙ sub-one _ })
+    (omega arith)
+    (pushed _ _ _ _ _ (p .holds) (p .answer) (omega arith))
+    (sym (append-nil _))

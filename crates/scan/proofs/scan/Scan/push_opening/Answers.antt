@@ -31,7 +31,7 @@ returns c k d h hold few low =
     let room = hold .counts .room in
     let deep = hold .counts .depth in
     come-quiet k d h (Opening (c .args .offset) (c .args .fold) (c .args .anchor)) s _ hold refl
-      (record { serial = refl; gone = refl; total = λ m q. omega arith; texts = sym (append-nil _); depth = omega (arith, c .saturating-add-self .ensures) })
-      (omega arith)
-      (pushed _ _ _ _ _ (p .holds) (p .answer) (omega arith) ∙ ap (λ (z : ℤ). held (s .slots) (s .«slot_ring») ++ (record { token = OpeningHeld z (c .args .fold) (c .args .anchor); extent = Waiting }) ∷ []) (toZ-ofZ w8 (c .args .offset) (c .fits .offset)))
-      (pushed _ _ _ _ _ (r .holds) (r .answer) (omega arith) ∙ ap (λ (x : Place). held (s .places) (s .«place_ring») ++ x ∷ []) place)
+    (record { serial = refl; gone = refl; total = λ m q. omega arith; texts = sym (append-nil _); depth = omega (arith, c .saturating-add-self .ensures) })
+    (omega arith)
+    (pushed _ _ _ _ _ (p .holds) (p .answer) (omega arith) ∙ ap (λ (z : ℤ). held (s .slots) (s .«slot_ring») ++ (record { token = OpeningHeld z (c .args .fold) (c .args .anchor); extent = Waiting }) ∷ []) (toZ-ofZ w8 (c .args .offset) (c .fits .offset)))
+    (pushed _ _ _ _ _ (r .holds) (r .answer) (omega arith) ∙ ap (λ (x : Place). held (s .places) (s .«place_ring») ++ x ∷ []) place)

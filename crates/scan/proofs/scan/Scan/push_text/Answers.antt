@@ -25,7 +25,7 @@ returns c k d h hold few fit wide =
     let q = c .push-all .ensures in
     let w : c .min-width .result ≡ length bytes = omega (arith, c .min-width .ensures) in
     come-quiet k d h (Text bytes) s _ hold refl
-      (record { serial = refl; gone = refl; total = λ m r. omega arith; texts = pushed-all _ _ _ _ _ (q .holds) (q .answer) (omega arith); depth = refl })
-      (omega arith)
-      (pushed _ _ _ _ _ (p .holds) (p .answer) (omega arith) ∙ ap (λ (v : ℕ). held (s .slots) (s .«slot_ring») ++ (record { token = TextHeld v; extent = Known 0 }) ∷ []) w)
-      (sym (append-nil _))
+    (record { serial = refl; gone = refl; total = λ m r. omega arith; texts = pushed-all _ _ _ _ _ (q .holds) (q .answer) (omega arith); depth = refl })
+    (omega arith)
+    (pushed _ _ _ _ _ (p .holds) (p .answer) (omega arith) ∙ ap (λ (v : ℕ). held (s .slots) (s .«slot_ring») ++ (record { token = TextHeld v; extent = Known 0 }) ∷ []) w)
+    (sym (append-nil _))

@@ -41,16 +41,21 @@ returns-in-Some-get c =
     let left = popped _ _ (held (s .places) (c .pop-back .last .ring)) _ (c .pop-back .ensures .holds) front _ back in
     record {
       settles = λ k b d h n stl.
-        let st = settle-step k b d h n s stl _ front back (c .if-place-self .left) (few k b d h n s stl long .1) in
-        let t = stl .counts in
-        let l = st .less in
-        (st .n, st .is, record {
-          counts = record { serial = t .serial; gone = t .gone; total = t .total; texts = t .texts; depth = t .depth; room = t .room };
-          slots = settled-slots k b d h (st .n) (held (s .slots) (s .«slot_ring»)) _ _ _ (c .in-Some-get .slot) (st .less) (stl .slots ∙ ap (λ (m : ℕ). mixed m h) (st .is)) (st .at) (st .size) (c .in-Some-get .ensures tt .holds .1) (c .put .ensures .holds);
-          places = settled-places k b d h n s stl (st .n) _ front _ (st .is) back left;
-          most = omega arith;
-          least = st .keep });
-      fewer = λ e. let x = ap length left in let y = ap length back ∙ length-push front _ in omega arith }
+          let st = settle-step k b d h n s stl _ front back (c .if-place-self .left) (few k b d h n s stl long .1) in
+          let t = stl .counts in
+          let l = st .less in (
+            st .n,
+            st .is,
+            record {
+              counts = record { serial = t .serial; gone = t .gone; total = t .total; texts = t .texts; depth = t .depth; room = t .room };
+              slots = settled-slots k b d h (st .n) (held (s .slots) (s .«slot_ring»)) _ _ _ (c .in-Some-get .slot) (st .less) (stl .slots ∙ ap (λ (m : ℕ). mixed m h) (st .is)) (st .at) (st .size) (c .in-Some-get .ensures tt .holds .1) (c .put .ensures .holds);
+              places = settled-places k b d h n s stl (st .n) _ front _ (st .is) back left;
+              most = omega arith;
+              least = st .keep;
+            },
+          );
+      fewer = λ e. let x = ap length left in let y = ap length back ∙ length-push front _ in omega arith;
+    }
 
 pub returns-in-rest-get : need.returns-in-rest-get
 returns-in-rest-get c =
@@ -61,7 +66,8 @@ returns-in-rest-get c =
     let left = popped _ _ (held (s .places) (c .pop-back .last .ring)) _ (c .pop-back .ensures .holds) front _ back in
     record {
       settles = λ k b d h n stl.
-        let f = few k b d h n s stl long in
-        let st = settle-step k b d h n s stl _ front back (c .if-place-self .left) (f .1) in
-        let a = st .at in let i = st .inside in let g = c .in-rest-get .ensures tt .holds in let e = f .0 in absurd (omega arith);
-      fewer = λ e. let x = ap length left in let y = ap length back ∙ length-push front _ in omega arith }
+          let f = few k b d h n s stl long in
+          let st = settle-step k b d h n s stl _ front back (c .if-place-self .left) (f .1) in
+          let a = st .at in let i = st .inside in let g = c .in-rest-get .ensures tt .holds in let e = f .0 in absurd (omega arith);
+      fewer = λ e. let x = ap length left in let y = ap length back ∙ length-push front _ in omega arith;
+    }
