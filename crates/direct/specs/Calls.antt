@@ -78,10 +78,14 @@ shallow-enough ts (break-call blanks offset) = true
 shallow-enough ts (opening-call offset fold anchor) = leb (length (opened ts)) 63
 shallow-enough ts (ending-call job number) = true
 
+-- the most tokens of a direct job
+abbrev pub most-tokens : ℕ
+most-tokens = 1000000
+
 -- the refusal of a call behind the tokens `ts` of the job of that number, by 2, 8, 9 and 5 in this order; the refused token's number is the count of tokens
 abbrev pub refusal : ℕ → List Token → Call → Option DirectFault
 refusal own ts c =
-    cond (leb 1000000 (length ts)) (Some (Tokens (length ts)))
+    cond (leb most-tokens (length ts)) (Some (Tokens (length ts)))
     (cond (not (in-range c)) (Some (Range (length ts)))
     (cond (not (met own ts c)) (Some (Receipt (length ts)))
     (cond (not (shallow-enough ts c)) (Some (Blocks (length ts))) None)))

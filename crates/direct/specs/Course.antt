@@ -11,7 +11,7 @@ use Rattle.std.specs.declared.result.Result.the-variants.{Ok, Err}
 use Rattle.lines.specs.Lines.{newlines, widest}
 use Rattle.layout.specs.Tokens.{Token, Text, Break, Opening, Ending, nest}
 use Rattle.layout.specs.Layout.{start, pieces, ended, joined, layout}
-use Rattle.layout.specs.Passing.{so-far, written, held-back}
+use Rattle.layout.specs.Passing.{most-held, so-far, written, held-back}
 use Rattle.sink.specs.Rule.{Rule, kept}
 use Rattle.sink.specs.Fault.{fault-for}
 use Rattle.printer.specs.declared.fault.PrinterFault.the-variants.{Full, Sink}
@@ -49,7 +49,7 @@ cut-of s ps = Printing (cut-fault (s .rule) (s .older) (length (s .older)) 0 ps)
 -- a token is laid out behind `ts`: refused by 7 where 384 are held back; else all passes that may, or the sink cuts it
 abbrev pub laid : Start → List Token → Token → Course
 laid s ts t =
-    cond (leb 384 (length (held-back (s .margin) ts))) (broken (Printing (Full (length ts))) (written (s .margin) ts))
+    cond (leb most-held (length (held-back (s .margin) ts))) (broken (Printing (Full (length ts))) (written (s .margin) ts))
     (cond (s .rule .admits (s .older ++ written (s .margin) (ts ++ t ∷ []))) (going (ts ++ t ∷ []))
     (broken (cut-of s (so-far (s .margin) (ts ++ t ∷ []) .pieces)) (kept-of s (so-far (s .margin) (ts ++ t ∷ []) .pieces))))
 

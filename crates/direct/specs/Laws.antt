@@ -9,7 +9,7 @@ use Rattle.std.specs.declared.option.Option.{Option}
 use Rattle.std.specs.declared.option.Option.the-variants.{Some, None}
 use Rattle.layout.specs.Tokens.{Token}
 use Rattle.layout.specs.Layout.{layout}
-use Rattle.layout.specs.Passing.{held-back}
+use Rattle.layout.specs.Passing.{most-held, held-back}
 use Rattle.direct.specs.declared.fault.DirectFault.{DirectFault}
 use Rattle.direct.specs.declared.fault.DirectFault.the-variants.{Tokens, Range, Receipt, Blocks, Unended, Printing}
 use Rattle.direct.specs.declared.outcome.Outcome.{Outcome}
@@ -41,10 +41,10 @@ abbrev pub broken-from : ℕ → List Token → List Call → Bool
 broken-from job ts [] = false
 broken-from job ts (c ∷ cs) = breaks (refusal job ts c) || broken-from job (with-token ts c (refusal job ts c)) cs
 
--- was there room for each token: were fewer than 384 held back before it?
+-- was there room for each token: were fewer held back before it than may be?
 abbrev pub room-or : ℕ → List Token → Option DirectFault → Bool
 room-or m ts (Some f) = true
-room-or m ts None = ltb (length (held-back m ts)) 384
+room-or m ts None = ltb (length (held-back m ts)) most-held
 
 abbrev pub room-from : ℕ → ℕ → List Token → List Call → Bool
 room-from job m ts [] = true

@@ -1,4 +1,4 @@
--- The number of a refused margin, and the limits of an indentation.
+-- The limits of an indentation, and of the column that a program keeps.
 use Prim.Native.Nat.{ℕ, _+_, _-_, min}
 use lib.IntN.{ℤ, pos, negsuc, _+ℤ_}
 

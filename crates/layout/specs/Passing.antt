@@ -5,6 +5,10 @@ use mathlib.Core.List.{List, [], _∷_, _++_}
 use Rattle.layout.specs.Tokens.{Token, opens, free, reached}
 use Rattle.layout.specs.Layout.{Pen, start, writes, after, fits, joined}
 
+-- the most tokens that are held back
+abbrev pub most-held : ℕ
+most-held = 384
+
 -- May the first of `t ∷ ts` be passed, given whether the document has ended? A Text or an Ending always; an Opening or a
 -- Break once its reach has come, the document has ended, or the column plus the widths from it to the latest token passes
 -- the margin (until the reach comes, its size is these widths).

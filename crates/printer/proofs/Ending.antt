@@ -12,7 +12,7 @@ use Rattle.std.proofs.shelf.Lists.{append-nil, length-append}
 use Rattle.std.proofs.shelf.Tests.{cond-true, cond-false, eq-eqb, ne-eqb}
 use Rattle.layout.specs.Tokens.{Token}
 use Rattle.layout.specs.Layout.{Pen as LayoutPen, writes, after, fits, joined}
-use Rattle.layout.specs.Passing.{pass}
+use Rattle.layout.specs.Passing.{most-held, pass}
 use Rattle.layout.proofs.Passes.{joined-append, pass-all}
 use Rattle.sink.specs.Rule.{Rule, kept}
 use Rattle.sink.proofs.Kept.{Beginnings}
@@ -21,7 +21,7 @@ use Rattle.printer.specs.declared.fault.PrinterFault.the-variants.{Full, Sink}
 use Rattle.pen.specs.declared.pen.Pen.{Pen}
 use Rattle.printer.specs.declared.printer.Printer.{Printer}
 use Rattle.printer.specs.Printing.{capped, Printed, Passes, Prints}
-use Rattle.printer.specs.Giving.{most-held, Given, Room, end-piece, Counted, Ended, last-pieces, Finished}
+use Rattle.printer.specs.Giving.{Given, Room, end-piece, Counted, Ended, last-pieces, Finished}
 use Rattle.printer.proofs.Pieces.{printed-front, printed-ok, printed-cut}
 
 pub given-full : (m : ℕ) (pen : LayoutPen) (h : List Token) (number : ℕ) (out : List ℕ) (t : Token) (rule : Rule) (before : List ℕ) (older : ℕ) (text : List ℕ) (p : Printer) (Same : Type 0) (f : PrinterFault) → Room h number (Err f) → Same → Given m pen h number out t rule before older text p Same (Err f)

@@ -10,7 +10,7 @@ use Rattle.std.specs.declared.result.Result.the-variants.{Ok, Err}
 use Rattle.lines.specs.Lines.{newlines}
 use Rattle.layout.specs.Tokens.{Token, Text, Break, Opening, Ending, nest}
 use Rattle.layout.specs.Layout.{Pen as LayoutPen, joined}
-use Rattle.layout.specs.Passing.{pass}
+use Rattle.layout.specs.Passing.{most-held, pass}
 use Rattle.pen.specs.declared.pen.Pen.{Pen}
 use Rattle.pen.specs.At.{At}
 use Rattle.sink.specs.Rule.{Rule}
@@ -18,10 +18,6 @@ use Rattle.printer.specs.declared.fault.PrinterFault.{PrinterFault}
 use Rattle.printer.specs.declared.fault.PrinterFault.the-variants.{Full, Sink}
 use Rattle.printer.specs.declared.printer.Printer.{Printer}
 use Rattle.printer.specs.Printing.{capped, Printed, Passes}
-
--- the most tokens held back
-abbrev pub most-held : ℕ
-most-held = 384
 
 -- room for one token more, or the refused token's number
 abbrev pub Room : List Token → ℕ → Result (Unit {0}) PrinterFault → Type 0

@@ -82,7 +82,7 @@ impl Printer {
     {
         if self.scan.count() >= MOST {
             return Err(PrinterFault::Full {
-                token: self.passed.saturating_add(384),
+                token: self.passed.saturating_add(MOST as u64),
             });
         }
         Ok(())
