@@ -16,12 +16,20 @@ pub struct Desk<'r, 'j, S> {
 
 impl<'r, 'j, S: Sink> Desk<'r, 'j, S> {
     pub fn new(rt: &'r LibcRuntime, job: &'j mut DirectJob<S>) -> Desk<'r, 'j, S> {
-        Desk { rt, job, told: Ok(()) }
+        Desk {
+            rt,
+            job,
+            told: Ok(()),
+        }
     }
 
     // Leaves the desk, and says how telling went.
     pub fn leave(self) -> io::Result<()> {
-        let Desk { rt: _, job: _, told } = self;
+        let Desk {
+            rt: _,
+            job: _,
+            told,
+        } = self;
         told
     }
 
@@ -84,7 +92,10 @@ impl<'r, 'j, S: Sink> Desk<'r, 'j, S> {
             Err(fault) => {
                 let number = fault.number();
                 let token = fault.token();
-                self.note(println!(self.rt, "refused by {number} at token {token}, {length} standing"));
+                self.note(println!(
+                    self.rt,
+                    "refused by {number} at token {token}, {length} standing"
+                ));
             }
         }
     }

@@ -27,8 +27,15 @@ fn take_in<S: Sink>(rt: &LibcRuntime, job: &mut DirectJob<S>) -> io::Result<()> 
 // Tells what the job came to.
 fn tell_outcome(rt: &LibcRuntime, outcome: Outcome) -> io::Result<()> {
     match outcome {
-        Outcome::Whole { bytes, newlines, widest } => {
-            println!(rt, "whole: {bytes} bytes, {newlines} newlines, widest {widest}")
+        Outcome::Whole {
+            bytes,
+            newlines,
+            widest,
+        } => {
+            println!(
+                rt,
+                "whole: {bytes} bytes, {newlines} newlines, widest {widest}"
+            )
         }
         Outcome::Fault(fault) => {
             let number = fault.number();
