@@ -7,6 +7,7 @@ use crate::fault::DirectFault;
 use crate::outcome::Outcome;
 use printer::printer::Printer;
 
+pub mod asking;
 pub mod calls;
 pub mod draining;
 pub mod laying;

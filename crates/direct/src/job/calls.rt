@@ -4,12 +4,11 @@ ghost use mathlib.Core.Path.{_≡_};
 ghost use mathlib.Core.List.{List, [], _∷_, _++_};
 ghost use mathlib.Core.Bool.{true, false};
 ghost use Prim.Native.Nat.{ℕ, _≤_, _<_};
-ghost use lib.ListN.{length};
 ghost use Rattle.layout.specs.Tokens.{Token as LayoutToken, Break, Opening, Ending};
 ghost use Rattle.layout.specs.View.{view};
 ghost use Rattle.direct.specs.Calls.{Call, call-token, in-range, meets, text-call, break-call, opening-call, ending-call};
-ghost use Rattle.direct.specs.Course.{Start, course, answer, standing};
-ghost use Rattle.direct.specs.Standing.{seen, Stands, Called, Ready, Plain-call, Received, fault-of};
+ghost use Rattle.direct.specs.Course.{Start, course, answer};
+ghost use Rattle.direct.specs.Standing.{seen, Stands, Called, Ready, Plain-call, Received};
 use crate::fault::DirectFault;
 use crate::job::DirectJob;
 use crate::job::ranges::is_break;
@@ -105,20 +104,6 @@ impl<S: Sink> DirectJob<S> {
         self.take(an_ending())?;
         self.depth = self.depth.saturating_sub(1);
         Ok(())
-    }
-
-    // The length of the text standing.
-    pub fn length(&self) -> usize
-        ensures { λ r. ⌜ ((s : Start) (calls : List Call) → Stands s calls (seen (S·Sink .text) (S·Sink .rule) (now (self .entry))) → r ≡ length (standing s (course s calls))) ⌝ }
-    {
-        self.sink.len().saturating_sub(self.printer.older())
-    }
-
-    // The fault by which the job broke, if it did.
-    pub fn fault(&self) -> Option<DirectFault>
-        ensures { λ r. ⌜ ((s : Start) (calls : List Call) → Stands s calls (seen (S·Sink .text) (S·Sink .rule) (now (self .entry))) → r ≡ fault-of (course s calls)) ⌝ }
-    {
-        self.fault
     }
 
     // Hands in a Text or a Break, given whether it is in range.

@@ -71,13 +71,6 @@ impl<S: Sink> DirectJob<S> {
 }
 
 impl<S> Drained<S> {
-    // What the job came to.
-    pub fn outcome(&self) -> Outcome
-        ensures { λ r. ⌜ r ≡ now (self .entry) .outcome ⌝ }
-    {
-        self.outcome
-    }
-
     // Takes a receipt whose block was not ended, and repeats the outcome.
     pub fn settle(&self, receipt: Receipt) -> Outcome
         ensures { λ r. ⌜ r ≡ now (self .entry) .outcome ⌝ }
