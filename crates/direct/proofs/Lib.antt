@@ -4,3 +4,4 @@ pub mod Tables
 pub mod Steps
 pub mod Drains
 pub mod Wholes
+pub mod Cuts

@@ -16,17 +16,17 @@ use Rattle.layout.specs.Layout.{layout}
 use Rattle.layout.specs.Passing.{written, held-back}
 use Rattle.layout.specs.Laws.{Begins}
 use Rattle.layout.proofs.Passes.{written-begins}
+use Rattle.sink.specs.Rule.{Beginnings}
 use Rattle.direct.specs.declared.fault.DirectFault.{DirectFault}
 use Rattle.direct.specs.declared.fault.DirectFault.the-variants.{Tokens, Range, Receipt, Blocks, Unended, Printing}
 use Rattle.direct.specs.declared.outcome.Outcome.{Outcome}
 use Rattle.direct.specs.declared.outcome.Outcome.the-variants.{Whole, Fault}
 use Rattle.direct.specs.Calls.{Call, call-token, opened, refusal}
 use Rattle.direct.specs.Course.{Start, Course, going, broken, laid, taken-or, step, course-from, course, outcome, ends, whole, cut-of, print-pieces}
-use Rattle.direct.specs.Standing.{Beginnings}
 use Rattle.direct.specs.Laws.{with-token, given-from, breaks, broken-from, room-or, room-from, given, Whole-when, Is-whole, Whole-exactly}
 
 -- a broken course stays broken
-stays-broken : (s : Start) (f : DirectFault) (w : List ℕ) (cs : List Call) → course-from s (broken f w) cs ≡ broken f w
+pub stays-broken : (s : Start) (f : DirectFault) (w : List ℕ) (cs : List Call) → course-from s (broken f w) cs ≡ broken f w
 stays-broken s f w [] = refl
 stays-broken s f w (c ∷ cs) = stays-broken s f w cs
 
@@ -53,12 +53,12 @@ step-goes s ts c (Some (Unended n)) b r a = refl
 step-goes s ts c (Some (Printing f)) b r a = refl
 
 -- the text written begins the print, and so is admitted with it
-admitted-so-far : (s : Start) → Beginnings (s .rule) → (ts us : List Token) → s .rule .admits (s .older ++ layout (s .margin) (ts ++ us)) ≡ true → s .rule .admits (s .older ++ written (s .margin) ts) ≡ true
+admitted-so-far : (s : Start) → Beginnings (s .rule .admits) → (ts us : List Token) → s .rule .admits (s .older ++ layout (s .margin) (ts ++ us)) ≡ true → s .rule .admits (s .older ++ written (s .margin) ts) ≡ true
 admitted-so-far s beg ts us a =
     let b = written-begins (s .margin) ts us in
     beg (s .older ++ written (s .margin) ts) (b .0) (ap (s .rule .admits) (append-assoc (s .older) (written (s .margin) ts) (b .0) ∙ ap (λ (xs : List ℕ). s .older ++ xs) (sym (b .1))) ∙ a)
 
-course-goes : (s : Start) → Beginnings (s .rule) → (ts : List Token) (cs : List Call) → broken-from (s .job) ts cs ≡ false → room-from (s .job) (s .margin) ts cs ≡ true → s .rule .admits (s .older ++ layout (s .margin) (given-from (s .job) ts cs)) ≡ true → course-from s (going ts) cs ≡ going (given-from (s .job) ts cs)
+course-goes : (s : Start) → Beginnings (s .rule .admits) → (ts : List Token) (cs : List Call) → broken-from (s .job) ts cs ≡ false → room-from (s .job) (s .margin) ts cs ≡ true → s .rule .admits (s .older ++ layout (s .margin) (given-from (s .job) ts cs)) ≡ true → course-from s (going ts) cs ≡ going (given-from (s .job) ts cs)
 course-goes s beg ts [] b r a = refl
 course-goes s beg ts (c ∷ cs) b r a =
     let o = refusal (s .job) ts c in
@@ -70,12 +70,12 @@ course-goes s beg ts (c ∷ cs) b r a =
     ap (λ (x : Course). course-from s x cs) (step-goes s ts c o (bs .0) (rs .0) here) ∙ course-goes s beg next cs (bs .1) (rs .1) a
 
 -- a step that goes on broke nothing and had room
-record Went (s : Start) (ts : List Token) (c : Call) (o : Option DirectFault) : Type 0 where
-  next : taken-or s ts c o ≡ going (with-token ts c o)
-  kept : breaks o ≡ false
-  room : room-or (s .margin) ts o ≡ true
+pub record Went (s : Start) (ts : List Token) (c : Call) (o : Option DirectFault) : Type 0 where
+  pub next : taken-or s ts c o ≡ going (with-token ts c o)
+  pub kept : breaks o ≡ false
+  pub room : room-or (s .margin) ts o ≡ true
 
-step-went : (s : Start) (ts : List Token) (c : Call) (o : Option DirectFault) (cs : List Call) (us : List Token) → course-from s (taken-or s ts c o) cs ≡ going us → Went s ts c o
+pub step-went : (s : Start) (ts : List Token) (c : Call) (o : Option DirectFault) (cs : List Call) (us : List Token) → course-from s (taken-or s ts c o) cs ≡ going us → Went s ts c o
 step-went s ts c None cs us e =
     ⊎-elim
     (λ f. absurd (apart _ _ us (sym (stays-broken s _ _ cs) ∙ (ap (λ (x : Course). course-from s x cs) (sym (cond-true (leb 384 (length (held-back (s .margin) ts))) _ _ f)) ∙ e))))
@@ -117,7 +117,7 @@ whole-course s (going us) i =
     (λ z. absurd (subst Is-whole (cond-false (eqb (length (opened us)) 0) _ _ z) i))
     (cases-bool (eqb (length (opened us)) 0))
 
-pub whole-exactly : (s : Start) (calls : List Call) (o : Outcome) → Beginnings (s .rule) → o ≡ outcome s (course s calls) → Whole-exactly s calls o
+pub whole-exactly : (s : Start) (calls : List Call) (o : Outcome) → Beginnings (s .rule .admits) → o ≡ outcome s (course s calls) → Whole-exactly s calls o
 whole-exactly s calls o beg e =
     record {
       when = λ w.

@@ -10,7 +10,7 @@ use Rattle.std.specs.declared.result.Result.{Result}
 use Rattle.std.specs.declared.result.Result.the-variants.{Ok, Err}
 use Rattle.layout.specs.Tokens.{Token, Text, Break, Opening, Ending}
 use Rattle.layout.specs.Passing.{so-far, written, held-back}
-use Rattle.sink.specs.Rule.{Rule}
+use Rattle.sink.specs.Rule.{Rule, Beginnings}
 use Rattle.printer.specs.declared.printer.Printer.{Printer}
 use Rattle.printer.specs.Printing.{Prints}
 use Rattle.direct.specs.declared.fault.DirectFault.{DirectFault}
@@ -36,15 +36,11 @@ abbrev pub seen : {S : Type 0} → (S → List ℕ) → (S → Rule) → DirectJ
 seen text rule j =
     record { text = text (j .sink); rule = rule (j .sink); printer = j .printer; job = j .number; given = j .given; blocks = reverse (take (j .depth) (j .blocks)); fault = j .fault }
 
--- with a text the rule admits each beginning of it
-abbrev pub Beginnings : Rule → Type 0
-Beginnings rule = (xs ys : List ℕ) → rule .admits (xs ++ ys) ≡ true → rule .admits xs ≡ true
-
 -- what no call changes
 pub record Opened (s : Start) (v : Seen) : Type 0 where
   pub least : 16 ≤ s .margin
   pub most : s .margin ≤ 120
-  pub beginnings : Beginnings (s .rule)
+  pub beginnings : Beginnings (s .rule .admits)
   pub held : s .rule .admits (s .older) ≡ true
   pub rule : v .rule ≡ s .rule
   pub job : v .job ≡ s .job

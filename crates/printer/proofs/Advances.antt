@@ -18,9 +18,9 @@ use Rattle.scan.specs.Holding.{Holds}
 use Rattle.scan.specs.declared.scan.Scan.{Scan}
 use Rattle.pen.specs.At.{At}
 use Rattle.sink.specs.declared.fault.SinkFault.{SinkFault}
-use Rattle.sink.specs.Rule.{Rule, kept}
+use Rattle.sink.specs.Rule.{Beginnings, Rule, kept}
 use Rattle.sink.specs.Fault.{Cut}
-use Rattle.sink.proofs.Kept.{Beginnings, kept-all}
+use Rattle.sink.proofs.Kept.{kept-all}
 use Rattle.printer.specs.declared.fault.AtToken.{AtToken}
 use Rattle.printer.specs.declared.fault.PrinterFault.{PrinterFault}
 use Rattle.printer.specs.declared.fault.PrinterFault.the-variants.{Sink}

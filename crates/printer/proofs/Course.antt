@@ -14,9 +14,8 @@ use Rattle.layout.specs.Passing.{Passed, behind, decided, pass}
 use Rattle.layout.specs.Laws.{onto}
 use Rattle.layout.proofs.Passes.{pass-on}
 use Rattle.sink.specs.declared.fault.SinkFault.{SinkFault}
-use Rattle.sink.specs.Rule.{Rule, kept}
+use Rattle.sink.specs.Rule.{Beginnings, Rule, kept}
 use Rattle.sink.specs.Fault.{Cut}
-use Rattle.sink.proofs.Kept.{Beginnings}
 use Rattle.printer.specs.declared.fault.PrinterFault.{PrinterFault}
 use Rattle.printer.specs.declared.printer.Printer.{Printer}
 use Rattle.printer.specs.Printing.{capped, Prints, Decided, piece, next, Advanced, Printed, Passes}

@@ -14,8 +14,7 @@ use Rattle.layout.specs.Tokens.{Token}
 use Rattle.layout.specs.Layout.{Pen as LayoutPen, writes, after, fits, joined}
 use Rattle.layout.specs.Passing.{most-held, pass}
 use Rattle.layout.proofs.Passes.{joined-append, pass-all}
-use Rattle.sink.specs.Rule.{Rule, kept}
-use Rattle.sink.proofs.Kept.{Beginnings}
+use Rattle.sink.specs.Rule.{Beginnings, Rule, kept}
 use Rattle.printer.specs.declared.fault.PrinterFault.{PrinterFault}
 use Rattle.printer.specs.declared.fault.PrinterFault.the-variants.{Full, Sink}
 use Rattle.pen.specs.declared.pen.Pen.{Pen}

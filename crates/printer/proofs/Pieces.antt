@@ -13,9 +13,9 @@ use Rattle.std.proofs.shelf.Tests.{cond-true, cond-false, lt-ltb, le-ltb, cases
 use Rattle.layout.specs.Layout.{joined}
 use Rattle.layout.proofs.Passes.{joined-append}
 use Rattle.sink.specs.declared.fault.SinkFault.{SinkFault}
-use Rattle.sink.specs.Rule.{Rule, kept}
+use Rattle.sink.specs.Rule.{Beginnings, Rule, kept}
 use Rattle.sink.specs.Fault.{Cut, fault-of}
-use Rattle.sink.proofs.Kept.{Beginnings, kept-behind, kept-front, kept-over}
+use Rattle.sink.proofs.Kept.{kept-behind, kept-front, kept-over}
 use Rattle.sink.proofs.Runs.{cut-front, cut-behind}
 use Rattle.printer.specs.declared.fault.PrinterFault.{PrinterFault}
 use Rattle.printer.specs.declared.fault.PrinterFault.the-variants.{Sink}

@@ -1,5 +1,4 @@
--- What a rule keeps of a run of bytes behind a text. The lemmas that ask for `beginnings` hold of a rule that admits with a text each
--- beginning of it, as every sink's does.
+-- What a rule keeps of a run of bytes behind a text. The lemmas that ask for `Beginnings` hold of every sink's rule.
 use mathlib.Core.Bool.{Bool, true, false, cond}
 use mathlib.Core.List.{List, [], _∷_, _++_}
 use mathlib.Core.Logic.{⊎-elim}
@@ -7,13 +6,10 @@ use mathlib.Core.Path.{_≡_, refl, sym, ap, _∙_}
 use native.Mathlib.Omega.{arith}
 use Prim.Native.Nat.{ℕ, suc, _+_, _<_, _≤_}
 use lib.ListN.{length, getD, take, drop}
-use Rattle.std.proofs.shelf.Lists.{append-nil, append-assoc, take-all, take-more, drop-more, take-append-drop}
+use Rattle.std.proofs.shelf.Lists.{append-nil, append-assoc, take-all, take-more, drop-more, take-append-drop, take-take}
 use Rattle.std.proofs.shelf.Tests.{cases-bool, cases-lt, cond-true, cond-false, both-ways}
-use Rattle.sink.specs.Rule.{kept}
-
--- A rule that admits with a text each beginning of it.
-abbrev pub Beginnings : (List ℕ → Bool) → Type 0
-Beginnings p = (xs ys : List ℕ) → p (xs ++ ys) ≡ true → p xs ≡ true
+use Rattle.sink.specs.Longest.{Longest}
+use Rattle.sink.specs.Rule.{Beginnings, kept}
 
 -- One byte that fits.
 pub kept-more : (p : List ℕ → Bool) (before : List ℕ) (b : ℕ) (bs : List ℕ) → p (before ++ b ∷ []) ≡ true → kept p before (b ∷ bs) ≡ b ∷ kept p (before ++ b ∷ []) bs
@@ -111,3 +107,22 @@ kept-stop p beg before bytes i less fits over =
     let parts : bytes ≡ take i bytes ++ b ∷ drop (i + 1) bytes = sym (take-append-drop i bytes) ∙ ap (λ (zs : List ℕ). take i bytes ++ zs) (drop-more bytes i 0 less) in
     let over2 : p ((before ++ take i bytes) ++ b ∷ []) ≡ false = rw (append-assoc, ← take-more bytes i 0 less) over in
     ap (kept p before) parts ∙ kept-behind p beg before (take i bytes) (b ∷ drop (i + 1) bytes) fits ∙ ap (λ (zs : List ℕ). take i bytes ++ zs) (kept-none p (before ++ take i bytes) b (drop (i + 1) bytes) over2) ∙ append-nil (take i bytes)
+
+-- With n bytes any fewer are admitted.
+fewer : (p : List ℕ → Bool) → Beginnings p → (before bytes : List ℕ) (k n : ℕ) → k ≤ n → p (before ++ take n bytes) ≡ true → p (before ++ take k bytes) ≡ true
+fewer p beg before bytes k n l h =
+    let split : take n bytes ≡ take k bytes ++ drop k (take n bytes) = sym (take-append-drop k (take n bytes)) ∙ ap (λ (xs : List ℕ). xs ++ drop k (take n bytes)) (take-take k n bytes l) in
+    beg (before ++ take k bytes) (drop k (take n bytes)) (sym (ap p (ap (λ (xs : List ℕ). before ++ xs) split ∙ sym (append-assoc before (take k bytes) (drop k (take n bytes))))) ∙ h)
+
+-- What is kept is the longest beginning that is admitted.
+pub kept-longest : (p : List ℕ → Bool) → Beginnings p → (before bytes : List ℕ) → p before ≡ true → Longest p before bytes
+kept-longest p beg before bytes h =
+    record {
+      begins = kept-begins p before bytes;
+      admitted = kept-admitted p before bytes h;
+      longest = λ n l a.
+          ⊎-elim
+          (λ s. absurd (both-ways _ (kept-cut p before bytes (omega arith)) (fewer p beg before bytes (length (kept p before bytes) + 1) n (omega arith) a)))
+          (λ s. s)
+          (cases-lt (length (kept p before bytes)) n);
+    }

@@ -12,8 +12,8 @@ use Rattle.std.specs.Results.{Cases}
 use Rattle.std.specs.declared.result.Result.{Result}
 use Rattle.sink.specs.declared.fault.SinkFault.{SinkFault}
 use Rattle.sink.specs.Fault.{Cut}
-use Rattle.sink.specs.Rule.{Rule, kept}
-use Rattle.sink.proofs.Kept.{Beginnings, kept-all, kept-behind, kept-front, kept-over}
+use Rattle.sink.specs.Rule.{Beginnings, Rule, kept}
+use Rattle.sink.proofs.Kept.{kept-all, kept-behind, kept-front, kept-over}
 
 -- The first run is cut: so are both, there.
 pub cut-front : (rule : Rule) → Beginnings (rule .admits) → (before xs ys : List ℕ) (older : ℕ) (f : SinkFault) → rule .admits before ≡ true → Cut rule before xs older f → Cut rule before (xs ++ ys) older f

@@ -8,8 +8,8 @@ use lib.ListN.{length, getD, take}
 use Rattle.std.proofs.shelf.Lists.{append-assoc, length-take-le, take-all, take-more}
 use Rattle.sink.specs.declared.fault.SinkFault.{SinkFault}
 use Rattle.sink.specs.Fault.{fault-for, Cut}
-use Rattle.sink.specs.Rule.{Reason, Rule, kept}
-use Rattle.sink.proofs.Kept.{Beginnings, kept-all, kept-stop}
+use Rattle.sink.specs.Rule.{Beginnings, Reason, Rule, kept}
+use Rattle.sink.proofs.Kept.{kept-all, kept-stop}
 
 -- one byte more
 pub one-more : (before bytes t : List ℕ) (i : ℕ) → i < length bytes → t ≡ before ++ take i bytes → t ++ getD bytes i 0 ∷ [] ≡ before ++ take (i + 1) bytes

@@ -4,7 +4,7 @@ use lib.ListN.{length, take}
 use mathlib.Core.Bool.{Bool, true}
 use mathlib.Core.List.{List, _++_}
 use mathlib.Core.Path.{_≡_}
-use Rattle.sink.specs.Rule.{kept}
+use Rattle.sink.specs.Rule.{Beginnings, kept}
 
 -- of the bytes behind a text: it is a beginning of them, the rule admits it there, and no longer beginning is admitted
 pub record Longest (admits : List ℕ → Bool) (before bytes : List ℕ) : Type 0 where
@@ -14,4 +14,4 @@ pub record Longest (admits : List ℕ → Bool) (before bytes : List ℕ) : Type
 
 -- for every rule that admits with a text each beginning of it, behind every text that it admits
 abbrev pub Kept-is-longest : Type 0
-Kept-is-longest = (admits : List ℕ → Bool) → ((xs ys : List ℕ) → admits (xs ++ ys) ≡ true → admits xs ≡ true) → (before bytes : List ℕ) → admits before ≡ true → Longest admits before bytes
+Kept-is-longest = (admits : List ℕ → Bool) → Beginnings admits → (before bytes : List ℕ) → admits before ≡ true → Longest admits before bytes

@@ -16,6 +16,10 @@ pub record Rule : Type 0 where
   pub admits : List ℕ → Bool
   pub reason : List ℕ → Reason
 
+-- With a text, each beginning of it is admitted.
+abbrev pub Beginnings : (List ℕ → Bool) → Type 0
+Beginnings admits = (xs ys : List ℕ) → admits (xs ++ ys) ≡ true → admits xs ≡ true
+
 -- What a refusal tells where a sink of kind k gives it: its own carries k, and one from below the kind that it came with.
 abbrev pub told : ℕ → Refusal → Reason
 told k (Own n) = record { number = n; kind = k }
@@ -23,7 +27,7 @@ told k (Below n j) = record { number = n; kind = j }
 
 -- The laws of a sink: its rule admits with a text each beginning of it, and the text held; what becomes of a sink is an order.
 pub record Laws {S : Type 0} (text : S → List ℕ) (rule : S → Rule) (later : S → S → Type 0) : Type 0 where
-  pub beginnings : (s : S) (xs ys : List ℕ) → rule s .admits (xs ++ ys) ≡ true → rule s .admits xs ≡ true
+  pub beginnings : (s : S) → Beginnings (rule s .admits)
   pub held : (s : S) → rule s .admits (text s) ≡ true
   pub stays : (s : S) → later s s
   pub goes : (s t u : S) → later s t → later t u → later s u

@@ -3,7 +3,7 @@ ghost use mathlib.Core.Path.{_≡_};
 ghost use mathlib.Core.List.{List, _++_};
 ghost use Rattle.direct.specs.Calls.{Call};
 ghost use Rattle.direct.specs.Course.{Start, course, outcome as outcome-of, left};
-ghost use Rattle.direct.specs.Laws.{Whole-exactly};
+ghost use Rattle.direct.specs.Laws.{Whole-exactly, Cut-longest};
 ghost use Rattle.direct.specs.Standing.{seen, Stands, Closed};
 use crate::fault::DirectFault;
 use crate::fault::DirectFaultFromPrinter;
@@ -19,7 +19,8 @@ impl<S: Sink> DirectJob<S> {
         ensures rule { λ r. ⌜ S·Sink .rule (r .sink) ≡ S·Sink .rule (self .sink) ⌝ }
         ensures later { λ r. ⌜ S·Sink .later (self .sink) (r .sink) ⌝ }
         ensures drains { λ r. ⌜ ((s : Start) (calls : List Call) → Stands s calls (seen (S·Sink .text) (S·Sink .rule) self) → (r .outcome ≡ outcome-of s (course s calls)) × (S·Sink .text (r .sink) ≡ s .older ++ left s (course s calls))) ⌝ }
-        ensures law { λ r. ⌜ ((s : Start) (calls : List Call) → Stands s calls (seen (S·Sink .text) (S·Sink .rule) self) → Whole-exactly s calls (r .outcome)) ⌝ }
+        ensures whole { λ r. ⌜ ((s : Start) (calls : List Call) → Stands s calls (seen (S·Sink .text) (S·Sink .rule) self) → Whole-exactly s calls (r .outcome)) ⌝ }
+        ensures cut { λ r. ⌜ ((s : Start) (calls : List Call) → Stands s calls (seen (S·Sink .text) (S·Sink .rule) self) → Cut-longest s calls (r .outcome) (S·Sink .text (r .sink))) ⌝ }
     {
         let outcome = self.close();
         let DirectJob {
