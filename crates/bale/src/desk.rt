@@ -7,7 +7,7 @@ use layout::token::Fold;
 use sink::sink::Sink;
 use std::io;
 
-pub struct Desk<'r, 'j, S> {
+pub(crate) struct Desk<'r, 'j, S> {
     rt: &'r LibcRuntime,
     job: &'j mut DirectJob<S>,
     // how telling went: its first error, if there was one
@@ -15,7 +15,7 @@ pub struct Desk<'r, 'j, S> {
 }
 
 impl<'r, 'j, S: Sink> Desk<'r, 'j, S> {
-    pub fn new(rt: &'r LibcRuntime, job: &'j mut DirectJob<S>) -> Desk<'r, 'j, S> {
+    pub(crate) fn new(rt: &'r LibcRuntime, job: &'j mut DirectJob<S>) -> Desk<'r, 'j, S> {
         Desk {
             rt,
             job,
@@ -24,7 +24,7 @@ impl<'r, 'j, S: Sink> Desk<'r, 'j, S> {
     }
 
     // Leaves the desk, and says how telling went.
-    pub fn leave(self) -> io::Result<()> {
+    pub(crate) fn leave(self) -> io::Result<()> {
         let Desk {
             rt: _,
             job: _,
@@ -34,21 +34,21 @@ impl<'r, 'j, S: Sink> Desk<'r, 'j, S> {
     }
 
     // Hands in a Text.
-    pub fn text(&mut self, text: &str) {
+    pub(crate) fn text(&mut self, text: &str) {
         self.note(print!(self.rt, "text {text:?} -> "));
         let answer = self.job.text(text.as_bytes());
         self.tell_answer(answer);
     }
 
     // Hands in a Break.
-    pub fn break_at(&mut self, blanks: u8, offset: i8) {
+    pub(crate) fn break_at(&mut self, blanks: u8, offset: i8) {
         self.note(print!(self.rt, "break {blanks} {offset} -> "));
         let answer = self.job.break_at(blanks, offset);
         self.tell_answer(answer);
     }
 
     // Hands in the Opening of a container, and keeps its receipt.
-    pub fn open_block(&mut self) -> Option<Receipt> {
+    pub(crate) fn open_block(&mut self) -> Option<Receipt> {
         self.note(print!(self.rt, "opening 2 all indent -> "));
         match self.job.open_block(2, Fold::All, Anchor::Indent) {
             Ok(receipt) => {
@@ -63,7 +63,7 @@ impl<'r, 'j, S: Sink> Desk<'r, 'j, S> {
     }
 
     // Hands in the Ending of a container, if its Opening gave a receipt.
-    pub fn end_block(&mut self, block: Option<Receipt>) {
+    pub(crate) fn end_block(&mut self, block: Option<Receipt>) {
         if let Some(receipt) = block {
             self.note(print!(self.rt, "ending -> "));
             let answer = self.job.end_block(receipt);
@@ -72,7 +72,7 @@ impl<'r, 'j, S: Sink> Desk<'r, 'j, S> {
     }
 
     // Asks the two questions: for the length standing and for the fault.
-    pub fn ask(&mut self) {
+    pub(crate) fn ask(&mut self) {
         let length = self.job.length();
         self.note(print!(self.rt, "length? {length}, fault? "));
         match self.job.fault() {

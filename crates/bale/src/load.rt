@@ -4,7 +4,7 @@ use crate::desk::Desk;
 use direct::receipt::Receipt;
 use sink::sink::Sink;
 
-pub fn bale<S: Sink>(desk: &mut Desk<'_, '_, S>) {
+pub(crate) fn bale<S: Sink>(desk: &mut Desk<'_, '_, S>) {
     desk.ask();
     let block = open(desk, "{");
     member(desk, "\"bale\"", "7");

@@ -13,6 +13,12 @@ pub mod draining;
 pub mod laying;
 mod ranges;
 
+// The most tokens of a direct job.
+pub const TOKENS: u32 = 1_000_000;
+
+// The most blocks open at once.
+pub const BLOCKS: usize = 64;
+
 pub struct DirectJob<S> {
     sink: S,
     printer: Printer,
@@ -20,7 +26,7 @@ pub struct DirectJob<S> {
     // tokens given
     given: u32,
     // the token numbers of the open blocks' Openings, the innermost last
-    blocks: [u32; 64],
+    blocks: [u32; BLOCKS],
     depth: usize,
     fault: Option<DirectFault>,
     ghost full: { length blocks ≡ 64 },

@@ -25,6 +25,7 @@ impl Margin {
         }
     }
 
+    // Its columns.
     pub fn columns(&self) -> u8
         ensures value { λ r. ⌜ r ≡ now (self .entry) .columns ⌝ }
         ensures least { λ r. ⌜ 16 ≤ r ⌝ }

@@ -10,7 +10,9 @@ ghost use Rattle.direct.specs.Calls.{Call, call-token, in-range, meets, text-c
 ghost use Rattle.direct.specs.Course.{Start, course, answer};
 ghost use Rattle.direct.specs.Standing.{seen, Stands, Called, Ready, Plain-call, Received};
 use crate::fault::DirectFault;
+use crate::job::BLOCKS;
 use crate::job::DirectJob;
+use crate::job::TOKENS;
 use crate::job::ranges::is_break;
 use crate::job::ranges::is_near;
 use crate::job::ranges::is_text;
@@ -34,7 +36,7 @@ impl<S: Sink> DirectJob<S> {
             printer: Printer::new(margin, older),
             number,
             given: 0,
-            blocks: [0; 64],
+            blocks: [0; BLOCKS],
             depth: 0,
             fault: None,
         }
@@ -72,7 +74,7 @@ impl<S: Sink> DirectJob<S> {
                 token: self.given as u64,
             });
         }
-        if self.depth >= 64 {
+        if self.depth >= BLOCKS {
             return Err(DirectFault::Blocks {
                 token: self.given as u64,
             });
@@ -128,7 +130,7 @@ impl<S: Sink> DirectJob<S> {
         if let Some(fault) = self.fault {
             return Err(fault);
         }
-        if self.given >= 1_000_000 {
+        if self.given >= TOKENS {
             let fault = DirectFault::Tokens {
                 token: self.given as u64,
             };

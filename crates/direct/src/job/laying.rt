@@ -11,6 +11,7 @@ ghost use Rattle.direct.specs.Asking.{Fit};
 use crate::fault::DirectFault;
 use crate::fault::DirectFaultFromPrinter;
 use crate::job::DirectJob;
+use crate::job::TOKENS;
 use layout::token::Token;
 use sink::sink::Sink;
 
@@ -39,7 +40,7 @@ impl<S: Sink> DirectJob<S> {
         ensures lays { λ r. ⌜ ((s : Start) (ts : List LayoutToken) → Opened s (seen (S·Sink .text) (S·Sink .rule) (now (self .entry))) → Goes s ts (seen (S·Sink .text) (S·Sink .rule) (now (self .entry))) → Fit ts (view (token .entry)) → Lay s ts (view (token .entry)) (seen (S·Sink .text) (S·Sink .rule) (now (self .exit))) r) ⌝ }
     {
         self.printer.give(&mut self.sink, token)?;
-        self.given = self.given.saturating_add(1).min(1_000_000);
+        self.given = self.given.saturating_add(1).min(TOKENS);
         Ok(())
     }
 }

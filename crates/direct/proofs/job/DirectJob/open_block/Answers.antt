@@ -37,8 +37,8 @@ returns-then-not-is-near g c =
           received-err s calls d v _ _ (next-refused s calls d v ts (Range (length ts)) _ _ (rd .1) (rd .3) (refused-range (s .job) ts d (rd .2) far) (rd .4, rd .5) (ap Range (rd .4 .given)) (e .sink));
     }
 
-pub returns-then-self-ge64 : need.returns-then-self-ge64
-returns-then-self-ge64 g c =
+pub returns-then-self-ge-BLOCKS : need.returns-then-self-ge-BLOCKS
+returns-then-self-ge-BLOCKS g c =
     let k = g .S·Sink in
     let j = c .ready .last .self in
     let v = seen (k .text) (k .rule) j in
@@ -52,7 +52,7 @@ returns-then-self-ge64 g c =
           let rd = e .stands s calls st in
           let ts = rd .0 in
           let n : length (opened ts) ≡ j .depth = ap length (sym (rd .5)) ∙ turned-length (j .blocks) (j .depth) deep in
-          let full : leb (length (opened ts)) 63 ≡ false = lt-leb (length (opened ts)) 63 (omega (arith, c .if-self-ge64 .taken)) in
+          let full : leb (length (opened ts)) 63 ≡ false = lt-leb (length (opened ts)) 63 (omega (arith, c .if-self-ge-BLOCKS .taken)) in
           received-err s calls d v _ _ (next-refused s calls d v ts (Blocks (length ts)) _ _ (rd .1) (rd .3) (refused-blocks (s .job) ts d (rd .2) close refl full) (rd .4, rd .5) (ap Blocks (rd .4 .given)) (e .sink));
     }
 
@@ -76,7 +76,7 @@ returns-in-Break-take g c =
           let ts = rd .0 in
           let n : length (opened ts) ≡ j .depth = ap length (sym (rd .5)) ∙ turned-length (j .blocks) (j .depth) deep in
           let m = opened-count ts in
-          let low : nest 0 ts < 64 = omega (arith, c .if-self-ge64 .left) in
+          let low : nest 0 ts < 64 = omega (arith, c .if-self-ge-BLOCKS .left) in
           let few : leb (length (opened ts)) 63 ≡ true = le-leb (length (opened ts)) 63 (omega arith) in
           let l = t .lays s ts (rd .3) (rd .4) (rd .2, subst (Fit-token ts) (sym is) low) in
           received-err s calls d _ _ _ (next-laid s calls d _ ts (view (c .an-opening .result)) _ _ (rd .1) (t .opened s (rd .3)) (refused-none (s .job) ts d (rd .2) close refl few) (sym is)
@@ -106,7 +106,7 @@ returns g c =
           let n : length (opened ts) ≡ i .depth = ap length (sym (rd .5)) ∙ turned-length (i .blocks) (i .depth) deep in
           let m = opened-count ts in
           let dep = t .table .1 in
-          let low : nest 0 ts < 64 = omega (arith, c .if-self-ge64 .left) in
+          let low : nest 0 ts < 64 = omega (arith, c .if-self-ge-BLOCKS .left) in
           let few : leb (length (opened ts)) 63 ≡ true = le-leb (length (opened ts)) 63 (omega arith) in
           let l = t .lays s ts (rd .3) (rd .4) (rd .2, subst (Fit-token ts) (sym is) low) in
           let table : w .blocks ≡ opened ts = ap (λ (xs : List ℕ). reverse (take (j .depth) xs)) (t .table .0) ∙ (ap (λ (q : ℕ). reverse (take q (i .blocks))) dep ∙ rd .5) in
