@@ -2,6 +2,8 @@
 //
 // Each call is told with its answer and the length standing after it. The drain, the text and the
 // outcome come last.
+#![tactic(auto)]
+
 use crate::desk::Desk;
 use crate::load::bale;
 use anyhow::anyhow;

@@ -5,6 +5,8 @@
 // Ending or a drained job must take. The drain moves the open job into a drained one, which gives its
 // outcome and hands the sink back. `specs/Course` says what every list of calls comes to, and
 // `specs/Laws` when a job is whole.
+#![tactic(auto)]
+
 pub mod fault;
 pub mod job;
 pub mod outcome;

@@ -3,5 +3,7 @@
 //
 // `specs/` says what a grammar and a reader mean and which laws every grammar shows; a job over any
 // grammar rests on these laws and on nothing else.
+#![tactic(auto)]
+
 pub mod grammar;
 pub mod refusal;

@@ -2,4 +2,6 @@
 // the limits are accepted, with their words where they stand; each refusal comes exactly where it should;
 // and both show the laws of a grammar. Sample records are read as a table says, shown by computing the
 // definitions. It is a theory: no code runs.
+#![tactic(auto)]
+
 pub mod laws;

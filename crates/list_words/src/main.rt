@@ -1,6 +1,8 @@
 // Lists the words of texts. Each line of the input is the name of a grammar, a blank and a text; each
 // word of the text is told with its place and its kind, and then how the text ends.
-use json::json::Json;
+#![tactic(auto)]
+
+use json_grammar::json::Json;
 use rules::language::Language;
 use rules::word::Kind;
 use sexpr::sexpr::Sexpr;

@@ -3,6 +3,8 @@
 // `pen` has the pen: its column, its open blocks, and the newlines and the widest line so far.
 // `breaking` has the two ways to write a Break, and `indent` the limits of an indentation.
 // `specs/At` says where a pen stands, in the words of the layout.
+#![tactic(auto)]
+
 pub mod breaking;
 mod indent;
 pub mod pen;

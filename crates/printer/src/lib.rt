@@ -3,6 +3,8 @@
 // of the tokens so far; at most 384 tokens are held back; a sink that refuses a byte ends the print
 // with that fault and the number of the token not wholly written. Nothing calls itself, and a token
 // costs constant time over all tokens together.
+#![tactic(auto)]
+
 pub mod fault;
 pub mod printer;
 mod write;

@@ -3,6 +3,8 @@
 // Each contract says what becomes of that list, and that a refusal changes neither the slots nor the ring.
 // No function requires anything: a ring that reaches past its slots is read as if cut to their number.
 // Each call does a constant amount of work, but for `push_all`, which copies its elements one by one.
+#![tactic(auto)]
+
 ghost use Rattle.std.specs.Prelude.{◌≡◌, ◌+◌, ◌-◌, ◌<◌, ◌≤◌, false, [], ◌∷◌, ◌++◌, length, take, drop, if◌then◌else◌, MatchOption, nat_le, nat_lt, slice_index_or, slice_set};
 ghost use Rattle.queue.specs.Held.{held, slot};
 

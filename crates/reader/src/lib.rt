@@ -4,6 +4,8 @@
 // `reader` has the reader, `piece` what stands around a word's Text, `tokens` the tokens of a word,
 // `ended` what is told of a word that ended, and `refusals` the numbers by which a reader refuses.
 // `specs/State` says what a reader holds, in the words of the machine that reads by the rules.
+#![tactic(auto)]
+
 pub mod ended;
 pub mod laws;
 mod piece;

@@ -1,6 +1,6 @@
 // What the trials share, and the trials.
 use grammar::grammar::Grammar;
-use json::json::Json;
+use json_grammar::json::Json;
 use layout::token::Token;
 use reader::reader::Reader;
 use sexpr::sexpr::Sexpr;

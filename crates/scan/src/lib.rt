@@ -4,4 +4,6 @@
 // first one goes by `drop_first`. A Break settles the sizes of all tokens that it is the reach of, so
 // the first token's record says at any time whether its size is known. Each call takes constant time,
 // a Break's over all tokens together, and nothing is written here: the sink is the printer's.
+#![tactic(auto)]
+
 pub mod scan;

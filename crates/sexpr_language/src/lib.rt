@@ -2,5 +2,7 @@
 //
 // Proved: the rules are lawful, and the words and documents by the rules are those of the language.
 // It is a theory: only the classes of bytes are code.
+#![tactic(auto)]
+
 pub mod class;
 pub mod laws;

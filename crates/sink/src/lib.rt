@@ -2,6 +2,7 @@
 //
 // A sink means the text that it holds and a rule that admits a text or not. `sink` has the trait with its laws, `window` and `slip` have
 // two sinks, and `write` writes runs of bytes into any sink.
+#![tactic(auto)]
 
 pub mod fault;
 pub mod kind;

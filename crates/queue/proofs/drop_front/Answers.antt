@@ -5,5 +5,5 @@ use Rattle.queue.proofs.drop_front.Goals as goal
 
 pub returns : goal.returns
 returns g c =
-    let h = held_drop c.args.slots.now c.args.ring.now _ _ _ _ c.count-len.ensures.value (search rules) c.saturating-sub-ring.ensures in
+    let h = held_drop c.args.slots.now c.args.ring.now _ _ _ _ c.count-len.ensures.value (search rules) c.saturating_sub-ring.ensures in
     record { holds = h; count = ap length h ∙ length-drop _ _ }

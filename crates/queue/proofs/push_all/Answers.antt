@@ -12,7 +12,7 @@ turn {X} olds xs before after i room r x b l fits e a h =
     ∙ ap (λ (y : X). olds ++ (take i xs ++ y ∷ [])) e ∙ ap (λ (ys : List X). olds ++ ys) (sym (take_more xs i x l))
 
 pub loop-x-preserved : goal.loop-x-preserved
-loop-x-preserved g c = turn _ c.args.xs.now _ _ _ _ _ _ c.loop-x.invariant c.loop-x-test.true (search rules) c.x-item.is c.push-back.ensures.answer c.push-back.ensures.holds
+loop-x-preserved g c = turn _ c.args.xs.now _ _ _ _ _ _ c.loop-x.invariant c.loop-x-test.true (search rules) c.x-item.is c.push_back.ensures.answer c.push_back.ensures.holds
 
 pub returns : goal.returns
 returns g c = search (rules, take_all)

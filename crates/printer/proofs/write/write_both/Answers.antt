@@ -4,15 +4,15 @@ use Rattle.std.proofs.lemmas.Result.{err_from_is_err_and}
 use Rattle.sink.proofs.Runs.{cut_front, stands_front, stands_behind, cases_behind}
 use Rattle.printer.proofs.write.write_both.Goals as goal
 
-pub returns-in-err-write : goal.returns-in-err-write
-returns-in-err-write g c =
+pub returns-in_err-write : goal.returns-in_err-write
+returns-in_err-write g c =
     let m = g.S.Sink in
     let s = c.args.sink.now in
     let xs = c.args.first.now in
     let ys = c.args.second.now in
-    let first = c.in-err-write.ensures in
+    let first = c.in_err-write.ensures in
     let beg = m.laws.beginnings s in
-    let p = err_from_is_err_and c.from-residual.result c.from-residual.ensures.1 in
+    let p = err_from_is_err_and c.from_residual.result c.from_residual.ensures.1 in
     rw (p.1, p.2) (record {
       rule = first.rule;
       later = first.later;
@@ -29,7 +29,7 @@ returns g c =
     let t = c.write.new.sink in
     let xs = c.args.first.now in
     let ys = c.args.second.now in
-    let first = c.in-ok-write.ensures in
+    let first = c.in_ok-write.ensures in
     let rest = c.write-2.ensures in
     let beg = m.laws.beginnings s in
     record {

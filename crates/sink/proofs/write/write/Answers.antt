@@ -36,7 +36,7 @@ returns-in-Err g c =
     let p = c.in-Err.ensures in
     let why = told g.S.Kind.KindNumber.number c.in-Err.refusal in
     let size : c.len.result ≡ length (m.text t) = c.len.ensures ∙ ap (λ u. length (m.text u)) p.cases.1 in
-    let standing : c.saturating-sub-standing.result ≡ length (m.text t) - c.args.older = omega arith in
-    let fault = c.sink-fault.ensures ∙ ap (fault_for why) standing in
-    let cut = cut_stands (m.rule s) (m.rule t) (m.text s) c.args.bytes.now (m.text t) c.loop-b.b-index c.args.older why c.sink-fault.result (m.laws.beginnings s) inv.1 (m.laws.held t) c.loop-b-test.true inv.3 p.cases.0.over p.cases.2 fault in
+    let standing : c.saturating_sub-standing.result ≡ length (m.text t) - c.args.older = omega arith in
+    let fault = c.sink_fault.ensures ∙ ap (fault_for why) standing in
+    let cut = cut_stands (m.rule s) (m.rule t) (m.text s) c.args.bytes.now (m.text t) c.loop-b.b-index c.args.older why c.sink_fault.result (m.laws.beginnings s) inv.1 (m.laws.held t) c.loop-b-test.true inv.3 p.cases.0.over p.cases.2 fault in
     record { rule = p.rule ∙ inv.1; later = m.laws.goes s t c.put.new.self inv.2 p.later; text = ap m.text p.cases.1 ∙ cut.0; cases = cut.1 }

@@ -10,6 +10,6 @@ returns g c =
     record {
       later = c.put.ensures.later;
       stands = λ s calls st. c.put.ensures.stands s calls (break_call c.args.blanks c.args.offset) st
-          (ap (λ (o : ℤ). Break c.args.blanks o) (sym z) ∙ sym c.a-break.ensures)
-          (ap (λ (o : ℤ). in_range (break_call c.args.blanks o)) (sym z) ∙ sym c.is-break.ensures) tt;
+          (ap (λ (o : ℤ). Break c.args.blanks o) (sym z) ∙ sym c.a_break.ensures)
+          (ap (λ (o : ℤ). in_range (break_call c.args.blanks o)) (sym z) ∙ sym c.is_break.ensures) tt;
     }

@@ -10,22 +10,22 @@ use Rattle.direct.specs.Standing.{Seen, seen, Opened, Goes}
 use Rattle.direct.proofs.Lays.{next_fit, narrow_fit, lay_ok, lay_err, stood}
 use Rattle.direct.proofs.job.DirectJob.lay.Goals as goal
 
-pub returns-in-err-give : goal.returns-in-err-give
-returns-in-err-give g c =
+pub returns-in_err-give : goal.returns-in_err-give
+returns-in_err-give g c =
     let k = g.S.Sink in
     let v = seen k.text k.rule c.args.self.now in
     let j = c.args.self.now in
     let w : Seen = record { text = k.text c.give.new.sink; rule = k.rule c.give.new.sink; printer = c.give.new.self; job = j.number; given = j.given; blocks = reverse (take j.depth j.blocks); fault = j.fault } in
     let Same : Type 0 = (c.give.new.self ≡ j.printer) × (c.give.new.sink ≡ j.sink) in
-    let e = c.in-err-give.ensures in
-    let p = err_from_is_err_and c.from-residual.result c.from-residual.ensures.1 in
+    let e = c.in_err-give.ensures in
+    let p = err_from_is_err_and c.from_residual.result c.from_residual.ensures.1 in
     rw (p.1, p.2) (record {
       rule = e.rule;
       later = e.later;
       frame = (refl, refl, refl, refl, e.older);
       lays = λ s ts o go f.
           let few = f.0 in
-          lay_err s ts (view c.args.token) v w Same c.in-err-give.field-0.0 o go (stood s ts v o go (k.laws.held c.args.self.now.sink))
+          lay_err s ts (view c.args.token) v w Same c.in_err-give.field-0.0 o go (stood s ts v o go (k.laws.held c.args.self.now.sink))
           (e.gives s.margin _ _ _ _ go.prints (narrow_fit s.margin ts o.most) (next_fit s.margin ts _ f.1))
           (λ same. ap k.text same.1) (omega arith);
     })
@@ -36,7 +36,7 @@ returns g c =
     let v = seen k.text k.rule c.args.self.now in
     let j = c.args.self.now in
     let Same : Type 0 = (c.give.new.self ≡ j.printer) × (c.give.new.sink ≡ j.sink) in
-    let e = c.in-ok-give.ensures in
+    let e = c.in_ok-give.ensures in
     record {
       rule = e.rule;
       later = e.later;
@@ -46,5 +46,5 @@ returns g c =
           let n = go.given in
           lay_ok s ts (view c.args.token) v _ Same o go
           (e.gives s.margin _ _ _ _ go.prints (narrow_fit s.margin ts o.most) (next_fit s.margin ts _ f.1))
-          refl (omega (arith, c.saturating-add.ensures, c.min-self.ensures));
+          refl (omega (arith, c.saturating_add.ensures, c.min-self.ensures));
     }

@@ -11,4 +11,4 @@ returns g c s calls st =
     let v = seen k.text k.rule c.args.self.now in
     let e = ap length (standing_text s (course s calls) v st.by) ∙ length-append s.older (standing s (course s calls)) in
     let o = st.opened.older in
-    omega (arith, c.saturating-sub.ensures, c.len.ensures, c.older.ensures)
+    omega (arith, c.saturating_sub.ensures, c.len.ensures, c.older.ensures)

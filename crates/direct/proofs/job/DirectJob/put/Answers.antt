@@ -12,7 +12,7 @@ pub returns-then-not-fits : goal.returns-then-not-fits
 returns-then-not-fits g c =
     let k = g.S.Sink in
     let v = seen k.text k.rule c.ready.new.self in
-    let e = c.in-ok-ready.ensures in
+    let e = c.in_ok-ready.ensures in
     record {
       later = subst (λ x. k.later c.args.self.now.sink x) (sym e.sink) (k.laws.stays c.args.self.now.sink);
       stands = λ s calls d st is ran pl.
@@ -25,7 +25,7 @@ pub returns : goal.returns
 returns g c =
     let k = g.S.Sink in
     let v = seen k.text k.rule c.ready.new.self in
-    let e = c.in-ok-ready.ensures in
+    let e = c.in_ok-ready.ensures in
     let t = c.take.ensures in
     record {
       later = subst (λ x. k.later x c.take.new.self.sink) e.sink t.later;

@@ -13,9 +13,9 @@ pub returns-then-self-ge-TOKENS : goal.returns-then-self-ge-TOKENS
 returns-then-self-ge-TOKENS g c =
     let k = g.S.Sink in
     let v = seen k.text k.rule c.args.self.now in
-    record { sink = refl; stands = λ s calls st. ready_tokens s calls v _ _ st c.in-default.is c.if-self-ge-TOKENS.true (opened_as s v _ st.opened refl refl refl) refl refl refl }
+    record { sink = refl; stands = λ s calls st. ready_tokens s calls v _ _ st c.in_default.is c.if-self-ge-TOKENS.true (opened_as s v _ st.opened refl refl refl) refl refl refl }
 
 pub returns : goal.returns
 returns g c =
     let k = g.S.Sink in
-    record { sink = refl; stands = λ s calls st. ready_ok s calls (seen k.text k.rule c.args.self.now) (Unit {0}) st c.in-default.is c.if-self-ge-TOKENS.false }
+    record { sink = refl; stands = λ s calls st. ready_ok s calls (seen k.text k.rule c.args.self.now) (Unit {0}) st c.in_default.is c.if-self-ge-TOKENS.false }

@@ -26,5 +26,5 @@ pub returns : goal.returns
 returns c =
     let xs = c.args.bytes.now in
     let e : printable xs ≡ true = sym c.loop-b.invariant ∙ at_drop_all printable xs c.loop-b.b-index c.loop-b-test.false in
-    let n = eqb-false (length xs) 0 (sym c.is-empty.ensures ∙ c.if-is-empty.false) in
+    let n = eqb-false (length xs) 0 (sym c.is_empty.ensures ∙ c.if-is_empty.false) in
     sym (and_from _ _ (le-leb 1 (length xs) (omega (arith, n))) (and_from _ _ (le-leb (length xs) 255 c.if-bytes-gt255.false) e))

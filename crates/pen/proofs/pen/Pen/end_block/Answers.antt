@@ -7,7 +7,7 @@ pub returns : goal.returns
 returns c = λ m pen out fits at.
     let p = c.args.self.now in
     let within : p.«open» ≤ length p.blocks = omega arith in
-    let less : c.saturating-sub-self.result ≡ p.«open» - 1 = omega arith in
+    let less : c.saturating_sub-self.result ≡ p.«open» - 1 = omega arith in
     record {
       margin = at.margin;
       column = at.column;

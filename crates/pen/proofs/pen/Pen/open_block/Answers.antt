@@ -12,7 +12,7 @@ returns-then-self-lt64 c =
       opens = λ m pen out at few.
           let narrow : m ≤ 120 = omega arith in
           let indent = indents m pen out p at narrow c.args.anchor c.args.offset c.ranges.offset c.base-base.result c.indentation-indent.result c.base-base.ensures c.indentation-indent.ensures in
-          let mode : c.mode-of.result ≡ mode_of c.args.fits c.args.fold = search rules in
+          let mode : c.mode_of.result ≡ mode_of c.args.fits c.args.fold = search rules in
           record {
             margin = at.margin;
             column = at.column;

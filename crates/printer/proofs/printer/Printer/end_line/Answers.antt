@@ -9,8 +9,8 @@ pub returns : goal.returns
 returns g c =
     let k = g.S.Sink in
     let s = c.args.sink.now in
-    let e = c.write-line.ensures in
-    let ok = numbered_ok c.args.self.now.passed c.write-line.result _ (sym c.at-token.ensures ∙ c.in-ok-at-token.was) in
+    let e = c.write_line.ensures in
+    let ok = numbered_ok c.args.self.now.passed c.write_line.result _ (sym c.at_token.ensures ∙ c.in_ok-at_token.was) in
     let fit : (k.rule s).admits (k.text s ++ 10 ∷ []) ≡ true = MatchResult-at_ok _ _ _ ok e.cases in
     record {
       rule = e.rule;

@@ -15,7 +15,7 @@ returns-in-Text c =
           let n = subst (Next (length pen.blocks) h) e next in
           let s = texts_narrow h in
           let short = n.0 in
-          held_more m pen h number out c.args.self.now _ _ _ e pr next (c.push-text.ensures number (length pen.blocks) h pr.scan few (omega arith) (omega arith)) refl refl;
+          held_more m pen h number out c.args.self.now _ _ _ e pr next (c.push_text.ensures number (length pen.blocks) h pr.scan few (omega arith) (omega arith)) refl refl;
     }
 
 pub returns-in-Break : goal.returns-in-Break
@@ -26,7 +26,7 @@ returns-in-Break c =
       older = refl;
       holds = λ m pen h number out pr few narrow next.
           let e : view c.args.token ≡ Break c.in-Break.blanks c.in-Break.offset = ap view c.in-Break.is in
-          held_more m pen h number out c.args.self.now _ _ _ (e ∙ ap (λ (z : ℤ). Break c.in-Break.blanks z) (sym (to_z-of_z w8 c.in-Break.offset fit))) pr next (c.push-break.ensures number (length pen.blocks) h pr.scan few (omega arith)) refl refl;
+          held_more m pen h number out c.args.self.now _ _ _ (e ∙ ap (λ (z : ℤ). Break c.in-Break.blanks z) (sym (to_z-of_z w8 c.in-Break.offset fit))) pr next (c.push_break.ensures number (length pen.blocks) h pr.scan few (omega arith)) refl refl;
     }
 
 pub returns-in-Opening : goal.returns-in-Opening
@@ -37,7 +37,7 @@ returns-in-Opening c =
       holds = λ m pen h number out pr few narrow next.
           let e : view c.args.token ≡ Opening c.in-Opening.offset c.in-Opening.fold c.in-Opening.anchor = ap view c.in-Opening.is in
           let n = subst (Next (length pen.blocks) h) e next in
-          held_more m pen h number out c.args.self.now _ _ _ (e ∙ ap (λ (z : ℤ). Opening z c.in-Opening.fold c.in-Opening.anchor) (sym (to_z-of_z w8 c.in-Opening.offset fit))) pr next (c.push-opening.ensures number (length pen.blocks) h pr.scan few (omega (arith, n))) refl refl;
+          held_more m pen h number out c.args.self.now _ _ _ (e ∙ ap (λ (z : ℤ). Opening z c.in-Opening.fold c.in-Opening.anchor) (sym (to_z-of_z w8 c.in-Opening.offset fit))) pr next (c.push_opening.ensures number (length pen.blocks) h pr.scan few (omega (arith, n))) refl refl;
     }
 
 pub returns-in-Ending : goal.returns-in-Ending
@@ -46,5 +46,5 @@ returns-in-Ending c =
       older = refl;
       holds = λ m pen h number out pr few narrow next.
           let e : view c.args.token ≡ Ending = ap view c.in-Ending.is in
-          held_more m pen h number out c.args.self.now _ _ _ e pr next (c.push-ending.ensures number (length pen.blocks) h pr.scan few) refl refl;
+          held_more m pen h number out c.args.self.now _ _ _ e pr next (c.push_ending.ensures number (length pen.blocks) h pr.scan few) refl refl;
     }

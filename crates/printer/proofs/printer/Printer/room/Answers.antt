@@ -7,7 +7,7 @@ returns-then-count-ge-MOST c m pen h number out pr =
     let n = c.count.ensures.value _ _ h pr.scan in
     let l = c.count.ensures.most in
     let p = pr.passed in
-    (omega (arith, c.if-count-ge-MOST.true), ap Full (omega (arith, c.saturating-add.ensures)))
+    (omega (arith, c.if-count-ge-MOST.true), ap Full (omega (arith, c.saturating_add.ensures)))
 
 pub returns : goal.returns
 returns c m pen h number out pr = let n = c.count.ensures.value _ _ h pr.scan in omega (arith, c.if-count-ge-MOST.false)

@@ -2,8 +2,8 @@ use Rattle.std.proofs.Common.{◌≡◌, ℕ, ◌+◌, leb, ◌⊎◌, sym, refl
 use Rattle.printer.proofs.Turns.{turn_none, turn_known, turn_waiting}
 use Rattle.printer.proofs.printer.Printer.turn.Goals as goal
 
-pub returns-in-default : goal.returns-in-default
-returns-in-default c m pen h number out pr = turn_none _ m pen h (c.in-default.ensures _ _ h pr.scan)
+pub returns-in_default : goal.returns-in_default
+returns-in_default c m pen h number out pr = turn_none _ m pen h (c.in_default.ensures _ _ h pr.scan)
 
 pub returns-in-Known : goal.returns-in-Known
 returns-in-Known c m pen h number out pr =

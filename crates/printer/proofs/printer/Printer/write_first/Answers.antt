@@ -11,13 +11,13 @@ pub returns-in-Text : goal.returns-in-Text
 returns-in-Text g c =
     let k = g.S.Sink in
     let s = c.args.sink.now in
-    let e = c.write-text.ensures in
+    let e = c.write_text.ensures in
     record {
       rule = e.rule;
       later = e.later;
       older = e.older;
       writes = λ m pen t ts number out pr is.
-          by_text (WrittenFirst m pen ts number out c.args.fits (k.rule s) (k.text s) c.args.self.now.older (k.text c.write-text.new.sink) c.args.self.now c.write-text.new.self c.write-text.result) t c.in-Text.n (sym c.in-Text.is ∙ is)
+          by_text (WrittenFirst m pen ts number out c.args.fits (k.rule s) (k.text s) c.args.self.now.older (k.text c.write_text.new.sink) c.args.self.now c.write_text.new.self c.write_text.result) t c.in-Text.n (sym c.in-Text.is ∙ is)
           (λ bytes n pr. e.writes m pen bytes ts number out pr n) pr;
     }
 
@@ -25,16 +25,16 @@ pub returns-in-Break : goal.returns-in-Break
 returns-in-Break g c =
     let k = g.S.Sink in
     let s = c.args.sink.now in
-    let e = c.write-break.ensures in
+    let e = c.write_break.ensures in
     let fit : SFits w8 c.in-Break.offset = search rules in
     record {
       rule = e.rule;
       later = e.later;
       older = e.older;
       writes = λ m pen t ts number out pr is.
-          by_break (WrittenFirst m pen ts number out c.args.fits (k.rule s) (k.text s) c.args.self.now.older (k.text c.write-break.new.sink) c.args.self.now c.write-break.new.self c.write-break.result) t c.in-Break.blanks c.in-Break.offset (sym c.in-Break.is ∙ is)
+          by_break (WrittenFirst m pen ts number out c.args.fits (k.rule s) (k.text s) c.args.self.now.older (k.text c.write_break.new.sink) c.args.self.now c.write_break.new.self c.write_break.result) t c.in-Break.blanks c.in-Break.offset (sym c.in-Break.is ∙ is)
           (λ pr.
-          let F : ℤ → Type 0 = λ z. Stepped (k.rule s) (k.text s) (writes m pen (Break c.in-Break.blanks z) c.args.fits) c.args.self.now.older (k.text c.write-break.new.sink) (Moved m (after m pen (Break c.in-Break.blanks z) c.args.fits) (out ++ writes m pen (Break c.in-Break.blanks z) c.args.fits) c.args.self.now c.write-break.new.self) c.write-break.result in
+          let F : ℤ → Type 0 = λ z. Stepped (k.rule s) (k.text s) (writes m pen (Break c.in-Break.blanks z) c.args.fits) c.args.self.now.older (k.text c.write_break.new.sink) (Moved m (after m pen (Break c.in-Break.blanks z) c.args.fits) (out ++ writes m pen (Break c.in-Break.blanks z) c.args.fits) c.args.self.now c.write_break.new.self) c.write_break.result in
           subst F (to_z-of_z w8 c.in-Break.offset fit) (e.writes m pen out pr.stands)) pr;
     }
 
@@ -50,10 +50,10 @@ returns-in-Opening g c =
       writes = λ m pen t ts number out pr is.
           by_opening (WrittenFirst m pen ts number out c.args.fits (k.rule s) (k.text s) c.args.self.now.older _ c.args.self.now _ _) t c.in-Opening.offset c.in-Opening.fold c.in-Opening.anchor (sym c.in-Opening.is ∙ is)
           (λ pr.
-          let F : ℤ → Type 0 = λ z. At m (after m pen (Opening z c.in-Opening.fold c.in-Opening.anchor) c.args.fits) out c.open-block.new.self in
+          let F : ℤ → Type 0 = λ z. At m (after m pen (Opening z c.in-Opening.fold c.in-Opening.anchor) c.args.fits) out c.open_block.new.self in
           let deep = shallow_here _ ts pr.shallow.1 in
           stepped_none m (after m pen (Opening c.in-Opening.offset c.in-Opening.fold c.in-Opening.anchor) c.args.fits) out (k.rule s) (k.text s) c.args.self.now.older _ c.args.self.now _ (k.laws.held s) refl refl refl refl
-          (subst F (to_z-of_z w8 c.in-Opening.offset fit) (c.open-block.ensures.opens m pen out pr.stands deep))) pr;
+          (subst F (to_z-of_z w8 c.in-Opening.offset fit) (c.open_block.ensures.opens m pen out pr.stands deep))) pr;
     }
 
 pub returns-in-Ending : goal.returns-in-Ending
@@ -66,5 +66,5 @@ returns-in-Ending g c =
       older = refl;
       writes = λ m pen t ts number out pr is.
           by_ending (WrittenFirst m pen ts number out c.args.fits (k.rule s) (k.text s) c.args.self.now.older _ c.args.self.now _ _) t (sym c.in-Ending.is ∙ is)
-          (λ pr. stepped_none m (after m pen Ending c.args.fits) out (k.rule s) (k.text s) c.args.self.now.older _ c.args.self.now _ (k.laws.held s) refl refl refl refl (c.end-block.ensures m pen out c.args.fits pr.stands)) pr;
+          (λ pr. stepped_none m (after m pen Ending c.args.fits) out (k.rule s) (k.text s) c.args.self.now.older _ c.args.self.now _ (k.laws.held s) refl refl refl refl (c.end_block.ensures m pen out c.args.fits pr.stands)) pr;
     }

@@ -5,10 +5,10 @@ use Rattle.stream.specs.Recorded.{texts}
 use Rattle.printer.proofs.Writes.{wrote_as}
 use Rattle.printer.proofs.printer.Printer.write_text.Goals as goal
 
-pub returns-in-err-write-both : goal.returns-in-err-write-both
-returns-in-err-write-both g c =
-    let b = c.in-err-write-both.ensures in
-    let p = err_from_is_err_and c.from-residual.result c.from-residual.ensures.1 in
+pub returns-in_err-write_both : goal.returns-in_err-write_both
+returns-in_err-write_both g c =
+    let b = c.in_err-write_both.ensures in
+    let p = err_from_is_err_and c.from_residual.result c.from_residual.ensures.1 in
     rw (p.1, p.2) (record {
       rule = b.rule;
       later = b.later;
@@ -20,7 +20,7 @@ returns-in-err-write-both g c =
 
 pub returns : goal.returns
 returns g c =
-    let b = c.in-ok-write-both.ensures in
+    let b = c.in_ok-write_both.ensures in
     record {
       rule = b.rule;
       later = b.later;

@@ -5,8 +5,8 @@ use Rattle.reader.specs.State.{Held}
 use Rattle.reader.proofs.Steps.{long_taken, one_more_short}
 use Rattle.reader.proofs.reader.Reader.collect.Goals as goal
 
-pub returns-then-self-ge-MOST-BYTES : goal.returns-then-self-ge-MOST-BYTES
-returns-then-self-ge-MOST-BYTES g c =
+pub returns-then-self-ge-MOST_BYTES : goal.returns-then-self-ge-MOST_BYTES
+returns-then-self-ge-MOST_BYTES g c =
     let v = c.args.self.now in
     record { answer = long_taken v.len v.word c.args.byte (omega arith) (omega arith); held = λ t. absurd (both_ways _ refl t); place = refl }
 

@@ -4,15 +4,15 @@ use Rattle.stream.specs.declared.record.Place.{Place}
 use Rattle.scan.proofs.Goes.{gone}
 use Rattle.scan.proofs.scan.Scan.drop_first.Goals as goal
 
-pub returns-in-default : goal.returns-in-default
-returns-in-default c k d t ts hold = let e = ap length (sym hold.slots ∙ c.in-default.ensures.holds.0) in absurd (omega arith)
+pub returns-in_default : goal.returns-in_default
+returns-in_default c k d t ts hold = let e = ap length (sym hold.slots ∙ c.in_default.ensures.holds.0) in absurd (omega arith)
 
 pub returns : goal.returns
 returns c k d t ts hold =
     let s = c.args.self.now in
     gone k d t ts s _ c.in-Some.slot hold
     c.in-Some.ensures.holds
-    (c.drop-front.ensures.holds ∙ ap (λ (n : ℕ). drop n (held s.places s.place_ring)) c.places-of.ensures)
-    (c.drop-front-2.ensures.holds ∙ ap (λ (n : ℕ). drop n (held s.texts s.text_ring)) c.bytes-of.ensures)
-    (ap (λ (n : ℕ). (s.base + n) % 65536) c.columns-of.ensures)
+    (c.drop_front.ensures.holds ∙ ap (λ (n : ℕ). drop n (held s.places s.place_ring)) c.places_of.ensures)
+    (c.drop_front-2.ensures.holds ∙ ap (λ (n : ℕ). drop n (held s.texts s.text_ring)) c.bytes_of.ensures)
+    (ap (λ (n : ℕ). (s.base + n) % 65536) c.columns_of.ensures)
     refl refl refl

@@ -21,9 +21,9 @@ returns c k d h hold few fit =
     let n : length (held s.slots s.slot_ring) ≡ length h = ap length stl.slots ∙ length_mixed (keeps h) h in
     let w = length_waits k b d h in
     let y = ap length stl.places ∙ length-take (keeps h) (waits k b d h) in
-    let place = c.next-place-place.ensures k b d h stl.counts n in
-    let p = c.push-back.ensures in
-    let r = c.push-back-2.ensures in
+    let place = c.next_place-place.ensures k b d h stl.counts n in
+    let p = c.push_back.ensures in
+    let r = c.push_back-2.ensures in
     come_break k b d h c.args.blanks c.args.offset s _ stl
     (record { serial = refl; gone = refl; total = λ m q. omega arith; texts = sym (append-nil _); depth = refl })
     fit

@@ -18,13 +18,13 @@ returns c k d h hold few low =
     let n : length (held s.slots s.slot_ring) ≡ length h = ap length hold.slots ∙ e in
     let w = length_waits k hold.base d h in
     let q : length (held s.places s.place_ring) < 384 = let y = ap length hold.places in omega arith in
-    let place = c.next-place-place.ensures k hold.base d h hold.counts n in
-    let p = c.push-back.ensures in
-    let r = c.push-back-2.ensures in
+    let place = c.next_place-place.ensures k hold.base d h hold.counts n in
+    let p = c.push_back.ensures in
+    let r = c.push_back-2.ensures in
     let room = hold.counts.room in
     let deep = hold.counts.depth in
     come_quiet k d h (Opening c.args.offset c.args.fold c.args.anchor) s _ hold refl
-    (record { serial = refl; gone = refl; total = λ m q. omega arith; texts = sym (append-nil _); depth = omega (arith, c.saturating-add-self.ensures) })
+    (record { serial = refl; gone = refl; total = λ m q. omega arith; texts = sym (append-nil _); depth = omega (arith, c.saturating_add-self.ensures) })
     (omega arith)
     (pushed _ _ _ _ _ p.holds p.answer (omega arith) ∙ ap (λ (z : ℤ). held s.slots s.slot_ring ++ (record { token = OpeningHeld z c.args.fold c.args.anchor; extent = Waiting }) ∷ []) (to_z-of_z w8 c.args.offset c.ranges.offset))
     (pushed _ _ _ _ _ r.holds r.answer (omega arith) ∙ ap (λ (x : Place). held s.places s.place_ring ++ x ∷ []) place)

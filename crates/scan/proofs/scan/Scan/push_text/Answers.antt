@@ -16,8 +16,8 @@ returns c k d h hold few fit wide =
     let e = length_recorded h in
     let n : length (held s.slots s.slot_ring) ≡ length h = ap length hold.slots ∙ e in
     let x = ap length hold.counts.texts in
-    let p = c.push-back.ensures in
-    let q = c.push-all.ensures in
+    let p = c.push_back.ensures in
+    let q = c.push_all.ensures in
     let w : c.min-width.result ≡ length bytes = omega (arith, c.min-width.ensures) in
     come_quiet k d h (Text bytes) s _ hold refl
     (record { serial = refl; gone = refl; total = λ m r. omega arith; texts = pushed_all _ _ _ _ _ q.holds q.answer (omega arith); depth = refl })

@@ -22,4 +22,4 @@ pub returns : goal.returns
 returns c = λ k d h hold.
     let i = c.loop.invariant k d h hold in
     let s = c.loop-test.ensures.settles k i.0 d h i.1 i.2 in
-    (i.0, subst (λ (n : ℕ). Settling k i.0 d h n c.settle-last.new.self) s.0 s.1)
+    (i.0, subst (λ (n : ℕ). Settling k i.0 d h n c.settle_last.new.self) s.0 s.1)

@@ -20,8 +20,8 @@ few k b d h n s stl long =
     let e : length (held s.slots s.slot_ring) ≡ length h = ap length stl.slots ∙ length_mixed n h in
     let l = length_held_le s.slots s.slot_ring in (e, omega arith)
 
-pub returns-in-default : goal.returns-in-default
-returns-in-default c = record { settles = λ k b d h n stl. (settle_none k b d h n _ stl c.in-default.ensures.holds, stl); fewer = λ e. absurd (false≢true e) }
+pub returns-in_default : goal.returns-in_default
+returns-in_default c = record { settles = λ k b d h n stl. (settle_none k b d h n _ stl c.in_default.ensures.holds, stl); fewer = λ e. absurd (false≢true e) }
 
 pub returns-then-place-self : goal.returns-then-place-self
 returns-then-place-self c = record { settles = λ k b d h n stl. (settle_stop k b d h n _ stl _ _ c.in-Some.ensures.holds c.if-place-self.true, stl); fewer = λ e. absurd (false≢true e) }
@@ -32,7 +32,7 @@ returns-in-Some-get c =
     let long : length s.slots ≡ 384 = search rules in
     let back = c.in-Some.ensures.holds in
     let front = take (length (held s.places s.place_ring) - 1) (held s.places s.place_ring) in
-    let left = popped _ _ (held s.places c.pop-back.new.ring) _ c.pop-back.ensures.holds front _ back in
+    let left = popped _ _ (held s.places c.pop_back.new.ring) _ c.pop_back.ensures.holds front _ back in
     record {
       settles = λ k b d h n stl.
           let st = settle_step k b d h n s stl _ front back c.if-place-self.false (few k b d h n s stl long).1 in
@@ -51,17 +51,17 @@ returns-in-Some-get c =
       fewer = λ e. let x = ap length left in let y = ap length back ∙ length_push front _ in omega arith;
     }
 
-pub returns-in-default-get : goal.returns-in-default-get
-returns-in-default-get c =
+pub returns-in_default-get : goal.returns-in_default-get
+returns-in_default-get c =
     let s = c.args.self.now in
     let long : length s.slots ≡ 384 = search rules in
     let back = c.in-Some.ensures.holds in
     let front = take (length (held s.places s.place_ring) - 1) (held s.places s.place_ring) in
-    let left = popped _ _ (held s.places c.pop-back.new.ring) _ c.pop-back.ensures.holds front _ back in
+    let left = popped _ _ (held s.places c.pop_back.new.ring) _ c.pop_back.ensures.holds front _ back in
     record {
       settles = λ k b d h n stl.
           let f = few k b d h n s stl long in
           let st = settle_step k b d h n s stl _ front back c.if-place-self.false f.1 in
-          let a = st.at in let i = st.inside in let g = c.in-default-get.ensures.holds in let e = f.0 in absurd (omega arith);
+          let a = st.at in let i = st.inside in let g = c.in_default-get.ensures.holds in let e = f.0 in absurd (omega arith);
       fewer = λ e. let x = ap length left in let y = ap length back ∙ length_push front _ in omega arith;
     }

@@ -8,8 +8,8 @@ bounds-cells-self c =
     let long : length c.args.self.cells ≡ 40 = search rules in
     omega (arith, length-take c.args.self.used c.args.self.cells)
 
-pub overflow-add-result : goal.overflow-add-result
-overflow-add-result c =
+pub overflow_add-result : goal.overflow_add-result
+overflow_add-result c =
     let long : length c.args.self.cells ≡ 40 = search rules in
     omega (arith, length-take c.args.self.used c.args.self.cells)
 

@@ -10,6 +10,6 @@ returns-in-Some g c =
     record {
       text = refl;
       handed = λ sound busy.
-          hands_first g.L.Language.rules v.stage v.text.now v.at v.last (state_of v.reader) (ended_by (held_of v.reader)) v.handed c.saturating-add-self.result c.in-Some.word
-          c.in-default.not-Broken (few_ended (held_of v.reader)) c.saturating-add-self.ensures c.in-Some.ensures sound;
+          hands_first g.L.Language.rules v.stage v.text.now v.at v.last (state_of v.reader) (ended_by (held_of v.reader)) v.handed c.saturating_add-self.result c.in-Some.word
+          c.in_default.not-Broken (few_ended (held_of v.reader)) c.saturating_add-self.ensures c.in-Some.ensures sound;
     }

@@ -9,5 +9,5 @@ returns-in-Reading g c =
     let st = c.in-Reading.is in
     record {
       reading = λ h. st;
-      idle = λ sound. tells_idle g.L.Language.rules v.stage v.text.now v.last v.at (state_of v.reader) (ended_by (held_of v.reader)) v.handed c.ended.result c.is-none.result st c.ended.ensures c.is-none.ensures sound;
+      idle = λ sound. tells_idle g.L.Language.rules v.stage v.text.now v.last v.at (state_of v.reader) (ended_by (held_of v.reader)) v.handed c.ended.result c.is_none.result st c.ended.ensures c.is_none.ensures sound;
     }

@@ -11,5 +11,5 @@ returns-in-None g c = λ good.
 pub returns-in-Some : goal.returns-in-Some
 returns-in-Some g c = λ good.
     let v = c.args.self.now in
-    first_waits g.L.Language.rules v.text.now v.last (ended_by (held_of v.reader)) v.handed c.in-Some.ended c.bytes-before.result c.saturating-sub-place.result c.part-of.result.now c.word-of.result
-    (sym c.ended.ensures ∙ c.in-Some.is) good c.bytes-before.ensures c.saturating-sub-place.ensures c.part-of.ensures c.word-of.ensures.kind c.word-of.ensures.placed
+    first_waits g.L.Language.rules v.text.now v.last (ended_by (held_of v.reader)) v.handed c.in-Some.ended c.bytes_before.result c.saturating_sub-place.result c.part_of.result.now c.word_of.result
+    (sym c.ended.ensures ∙ c.in-Some.is) good c.bytes_before.ensures c.saturating_sub-place.ensures c.part_of.ensures c.word_of.ensures.kind c.word_of.ensures.placed

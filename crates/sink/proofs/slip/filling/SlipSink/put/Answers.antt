@@ -18,15 +18,15 @@ returns-then-at-ge-ROWS c =
     let last : 16 ≤ s.at + 1 = omega arith in
     record { rule = refl; later = slip_laws.stays s; cases = (record { over = newline_over s long c.args.byte c.if-byte-eq10.true last }, refl, refl) }
 
-pub overflow-add-self-then-byte-eq10 : goal.overflow-add-self-then-byte-eq10
-overflow-add-self-then-byte-eq10 c = omega (arith, len_most c.args.self.now)
+pub overflow_add-self-then-byte-eq10 : goal.overflow_add-self-then-byte-eq10
+overflow_add-self-then-byte-eq10 c = omega (arith, len_most c.args.self.now)
 
-pub invariant-of-self : goal.invariant-of-self
-invariant-of-self c =
+pub invariant_of-self : goal.invariant_of-self
+invariant_of-self c =
     let s = c.args.self.now in
     let long : length s.rows ≡ 16 = search rules in
     let h = newline_held s long c.args.byte c.if-byte-eq10.true c.empty.result c.empty.ensures c.if-at-ge-ROWS.false in
-    (omega arith, (h.split, (h.narrow, (h.size, tt))))
+    record { row = omega arith; split = h.split; narrow = h.narrow; size = h.size }
 
 pub returns-then-byte-eq10 : goal.returns-then-byte-eq10
 returns-then-byte-eq10 c =
@@ -42,16 +42,16 @@ returns-then-line-ge-WIDTH c =
     let full : 40 ≤ length (line (get_or s.rows s.at blank)) = omega (arith, ap length c.line.ensures) in
     record { rule = refl; later = slip_laws.stays s; cases = (record { over = byte_over s long c.args.byte c.if-byte-eq10.false blank full }, refl, refl) }
 
-pub overflow-add-self-2 : goal.overflow-add-self-2
-overflow-add-self-2 c = omega (arith, len_most c.args.self.now)
+pub overflow_add-self-2 : goal.overflow_add-self-2
+overflow_add-self-2 c = omega (arith, len_most c.args.self.now)
 
-pub invariant-of-self-2 : goal.invariant-of-self-2
-invariant-of-self-2 c =
+pub invariant_of-self-2 : goal.invariant_of-self-2
+invariant_of-self-2 c =
     let s = c.args.self.now in
     let long : length s.rows ≡ 16 = search rules in
     let room : length (line (get_or s.rows s.at blank)) < 40 = omega (arith, ap length c.line.ensures) in
     let h = byte_held s long c.args.byte c.if-byte-eq10.false blank c.with.result c.with.ensures room in
-    (s.row, (h.split, (h.narrow, (h.size, tt))))
+    record { row = s.row; split = h.split; narrow = h.narrow; size = h.size }
 
 pub returns : goal.returns
 returns c =

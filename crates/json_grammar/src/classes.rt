@@ -1,7 +1,7 @@
 // The class of each byte, by a table.
 ghost use Rattle.std.specs.Prelude.{◌≡◌};
 ghost use Rattle.json_language.specs.Classes.{class_of, number_of};
-ghost use Rattle.json.specs.ByClass.{numbered};
+ghost use Rattle.json_grammar.specs.ByClass.{numbered};
 
 use json_language::class::Class;
 

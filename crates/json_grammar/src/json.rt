@@ -3,7 +3,7 @@ ghost use Rattle.std.specs.Prelude.{◌≡◌};
 ghost use Rattle.json_language.specs.Words.{kind_as};
 ghost use Rattle.json_language.specs.Rules.{json_rules};
 ghost use Rattle.json_language.proofs.Lawful.{json_lawful};
-ghost use Rattle.json.specs.ByClass.{sort_in, delimits_in};
+ghost use Rattle.json_grammar.specs.ByClass.{sort_in, delimits_in};
 
 use crate::classes::class_of;
 use crate::literals::{literal_goes_on, literal_whole};

@@ -3,7 +3,7 @@ use Rattle.std.proofs.Common.{◌≡◌, ℕ, ◌<◌, Bool, T, eqb, List, lengt
 use Rattle.json_language.specs.declared.class.Class.{Class}
 use Rattle.json_language.specs.declared.class.Class.TheVariants.{Control, Blank, Space, Quote, Backslash, OpenArray, CloseArray, OpenObject, CloseObject, Comma, Colon, Minus, Plus, Point, Zero, Digit, Exponent, Letter, Other}
 use Rattle.json_language.specs.Classes.{class_of, number_of}
-use Rattle.json.specs.ByClass.{numbered}
+use Rattle.json_grammar.specs.ByClass.{numbered}
 use Rattle.rules.proofs.Table.{every, at}
 
 -- the test of one entry

@@ -1,7 +1,7 @@
 // Where a word may stand, what it does there, and the Break before it.
 ghost use Rattle.std.specs.Prelude.{◌≡◌};
 ghost use Rattle.json_language.specs.Rules.{as_value, item_or_name, as_string, as_comma, as_colon, closes, as_closing, sort_moves, sort_lead};
-ghost use Rattle.json.specs.ByClass.{sort_in};
+ghost use Rattle.json_grammar.specs.ByClass.{sort_in};
 
 use json_language::class::Class;
 use rules::place::{Bracket, Expects, Lead, Move};

@@ -3,7 +3,7 @@ use Rattle.std.proofs.Common.{◌≡◌, ℕ, arith}
 use Rattle.std.proofs.lemmas.Bool.Decides.{nat_tests}
 use Rattle.json_language.specs.Classes.{class_of}
 use Rattle.json_language.specs.Words.{sort_of, delimits}
-use Rattle.json.specs.ByClass.{sort_in, delimits_in}
+use Rattle.json_grammar.specs.ByClass.{sort_in, delimits_in}
 
 pub sort_class : (b : ℕ) → sort_in (class_of b) ≡ sort_of b
 sort_class b = grind (arith, nat_tests)
