@@ -30,7 +30,7 @@ fn lend(buffer: &mut [u8], bytes: &[u8]) -> usize
 fn buffer_lent(rt: HostRuntime) {
     let mut bytes = [b'.'; 4];
     assert_eq!(rt; lend(&mut bytes, b"abc"), 3);
-    assert!(rt; &bytes[0..4] == b"abc.");
+    assert!(rt; &bytes[0..4] == b"abc.".as_slice());
 }
 
 #[test]
@@ -39,7 +39,7 @@ fn window_edge(rt: HostRuntime) {
     let mut window = Window::new(&mut bytes);
     assert_eq!(rt; write(&mut window, 0, b"abc"), Ok(()));
     assert_eq!(rt; write(&mut window, 0, b"d"), full(1, 3));
-    assert!(rt; window.text() == b"abc");
+    assert!(rt; window.text() == b"abc".as_slice());
 }
 
 #[test]
@@ -56,7 +56,7 @@ fn cut_behind_older(rt: HostRuntime) {
     let mut window = Window::new(&mut bytes);
     assert_eq!(rt; write(&mut window, 0, b"ab\n "), Ok(()));
     assert_eq!(rt; write(&mut window, 2, b"cde"), full(1, 4));
-    assert!(rt; window.text() == b"ab\n cd");
+    assert!(rt; window.text() == b"ab\n cd".as_slice());
 }
 
 #[test]
@@ -66,6 +66,6 @@ fn slip_edges(rt: HostRuntime) {
     assert_eq!(rt; write_blanks(&mut slip, 0, 1), full(2, 40));
     assert_eq!(rt; write(&mut slip, 40, &[b'\n'; 15]), Ok(()));
     assert_eq!(rt; write_line(&mut slip, 40, 0), full(2, 15));
-    assert_eq!(rt; slip.row(15), Some(b""));
+    assert_eq!(rt; slip.row(15), Some(b"".as_slice()));
     assert_eq!(rt; slip.row(16), None);
 }

@@ -26,7 +26,7 @@ fn of_another_job(rt: HostRuntime) -> Result<(), Fail> {
     assert_eq!(rt; later, Err(fault));
     assert_eq!(rt; asked, Some(fault));
     assert_eq!(rt; repeated, Some(Outcome::Fault(fault)));
-    assert_eq!(rt; slip.row(0), Some(b""));
+    assert_eq!(rt; slip.row(0), Some(b"".as_slice()));
     assert_eq!(rt; outcome, Outcome::Fault(DirectFault::Unended { token: 1 }));
     Ok(())
 }
@@ -61,6 +61,6 @@ fn not_ended(rt: HostRuntime) -> Result<(), Fail> {
         repeated,
         Some(Outcome::Fault(DirectFault::Unended { token: 2 }))
     );
-    assert_eq!(rt; slip.row(0), Some(b""));
+    assert_eq!(rt; slip.row(0), Some(b"".as_slice()));
     Ok(())
 }
