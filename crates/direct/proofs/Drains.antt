@@ -1,28 +1,27 @@
 -- The drain of a job.
-use Rattle.std.proofs.Common.{◌≡◌, ℕ, zero, suc, ◌+◌, ◌-◌, ◌^◌, ◌<◌, ◌≤◌, min, Bool, true, false, cond, eqb, List, [], ◌∷◌, ◌++◌, length, Some, None, Ok, Err, Result, sym, refl, ap, ◌∙◌, subst, append_assoc, arith}
+use Rattle.std.proofs.Common.{◌≡◌, ℕ, ◌+◌, ◌-◌, ◌^◌, ◌<◌, min, true, false, eqb, List, [], ◌∷◌, ◌++◌, length, Some, Ok, Err, Result, sym, refl, ap, ◌∙◌, subst, append_assoc, arith}
 use Rattle.std.proofs.lemmas.List.{append-nil, length-append}
 use Rattle.std.proofs.lemmas.Bool.{cond-true, cond-false, eq-eqb, ne_eqb}
 use Rattle.lines.specs.Lines.{newlines, widest}
 use Rattle.lines.proofs.Joins.{newlines_most}
 use Rattle.layout.specs.Tokens.{Token}
-use Rattle.layout.specs.Layout.{Pen as LayoutPen, start, pieces, ended, joined, layout}
-use Rattle.layout.specs.Passing.{Passed, pass, so_far, written, held_back}
+use Rattle.layout.specs.Layout.{start, pieces, ended, joined, layout}
+use Rattle.layout.specs.Passing.{pass, so_far, written, held_back}
 use Rattle.layout.proofs.Passes.{joined_append, pass_all, pieces_join}
-use Rattle.sink.specs.Rule.{Rule, kept}
+use Rattle.sink.specs.Rule.{Rule}
 use Rattle.sink.proofs.Kept.{kept_all, kept_over}
-use Rattle.pen.specs.At.{At}
 use Rattle.pen.specs.declared.pen.Pen.{Pen}
 use Rattle.printer.specs.declared.fault.PrinterFault.{PrinterFault}
 use Rattle.printer.specs.Printing.{Printed}
-use Rattle.printer.specs.Giving.{end_piece, last_pieces, Counted, Finished}
+use Rattle.printer.specs.Giving.{end_piece, last_pieces, Finished}
 use Rattle.printer.proofs.Pieces.{printed_cut}
 use Rattle.direct.specs.declared.fault.DirectFault.{DirectFault}
 use Rattle.direct.specs.declared.fault.DirectFault.TheVariants.{Unended, Printing}
 use Rattle.direct.specs.declared.outcome.Outcome.{Outcome}
 use Rattle.direct.specs.declared.outcome.Outcome.TheVariants.{Whole, Fault}
 use Rattle.direct.specs.Calls.{Call, opened}
-use Rattle.direct.specs.Course.{Start, Course, going, broken, course, kept_of, cut_of, print_pieces, whole, ends, leaves, outcome, left}
-use Rattle.direct.specs.Standing.{Seen, Opened, Goes, Broke, By, Stands, Closed}
+use Rattle.direct.specs.Course.{Start, Course, going, broken, course, print_pieces}
+use Rattle.direct.specs.Standing.{Seen, Opened, Goes, By, Closed}
 use Rattle.direct.proofs.Passings.{pass_count}
 
 end_as : (ts : List Token) (n : ℕ) → n ≡ length ts → end_piece n ≡ ended ts

@@ -1,25 +1,25 @@
 -- A token is laid out behind the others.
-use Rattle.std.proofs.Common.{◌≡◌, ℕ, zero, suc, ◌+◌, ◌-◌, ◌^◌, ◌<◌, ◌≤◌, min, Bool, true, false, cond, leb, List, [], ◌∷◌, ◌++◌, reverse, length, take, Some, None, Ok, Err, Result, sym, refl, ap, ◌∙◌, subst, append_assoc, arith}
+use Rattle.std.proofs.Common.{◌≡◌, ℕ, suc, ◌+◌, ◌<◌, ◌≤◌, true, false, cond, leb, List, [], ◌∷◌, ◌++◌, reverse, length, take, Some, Ok, Err, Result, sym, refl, ap, ◌∙◌, subst, append_assoc, arith}
 use Rattle.std.proofs.lemmas.List.{length-append, length_push}
 use Rattle.std.proofs.lemmas.Bool.{cond-true, cond-false, le-leb, lt-leb}
-use Rattle.layout.specs.Tokens.{Token, Text, Break, Opening, Ending, widths, nest}
-use Rattle.layout.specs.Layout.{Pen, start, joined, layout}
+use Rattle.layout.specs.Tokens.{Token, Text, Break, Opening, Ending, widths}
+use Rattle.layout.specs.Layout.{Pen, start, joined}
 use Rattle.layout.specs.Passing.{Passed, pass, so_far, written, held_back}
 use Rattle.layout.specs.Laws.{onto}
 use Rattle.layout.proofs.Passes.{passing_joins, joined_append, held_is_narrow}
-use Rattle.sink.specs.Rule.{Rule, kept}
+use Rattle.sink.specs.Rule.{Rule}
 use Rattle.sink.proofs.Kept.{kept_over}
 use Rattle.printer.specs.declared.fault.PrinterFault.{PrinterFault}
 use Rattle.printer.specs.declared.fault.PrinterFault.TheVariants.{Full, Sink}
 use Rattle.printer.specs.declared.printer.Printer.{Printer}
-use Rattle.printer.specs.Printing.{capped, cut_fault, Prints, Printed, Passes}
+use Rattle.printer.specs.Printing.{Prints, Printed}
 use Rattle.printer.specs.Giving.{Next, Given}
 use Rattle.printer.proofs.Pieces.{printed_cut}
 use Rattle.direct.specs.declared.fault.DirectFault.{DirectFault}
 use Rattle.direct.specs.declared.fault.DirectFault.TheVariants.{Printing}
-use Rattle.direct.specs.Asking.{Fit, FitToken}
+use Rattle.direct.specs.Asking.{FitToken}
 use Rattle.direct.specs.Course.{Start, Course, going, broken, laid, after_laying, kept_of, cut_of}
-use Rattle.direct.specs.Standing.{Seen, Opened, Goes, Broke, Laid, Lay}
+use Rattle.direct.specs.Standing.{Seen, Opened, Goes, Laid, Lay}
 use Rattle.direct.proofs.Passings.{pass_count, pass_nest}
 
 -- what may be laid out may be given to the printer

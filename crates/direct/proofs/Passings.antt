@@ -1,11 +1,10 @@
 -- What is passed and what is held back, counted.
-use Rattle.std.proofs.Common.{◌≡◌, ℕ, zero, suc, pred, ◌+◌, ◌<◌, ◌≤◌, Bool, true, false, cond, List, [], ◌∷◌, ◌++◌, length, sym, refl, ap, ◌∙◌, subst, ⊎_elim, arith}
+use Rattle.std.proofs.Common.{◌≡◌, ℕ, suc, ◌+◌, Bool, List, [], ◌∷◌, length, sym, refl, ap, ◌∙◌, subst, ⊎_elim, arith}
 use Rattle.std.proofs.lemmas.Bool.{cases_Bool}
-use Rattle.layout.specs.Tokens.{Token, Text, Break, Opening, Ending, nest}
-use Rattle.layout.specs.Layout.{Pen, start, writes, after, fits}
-use Rattle.layout.specs.Passing.{Passed, decided, pass, so_far, held_back}
+use Rattle.layout.specs.Tokens.{Token, nest}
+use Rattle.layout.specs.Layout.{Pen, after, fits}
+use Rattle.layout.specs.Passing.{Passed, decided, pass}
 use Rattle.layout.proofs.Passes.{pass_on, pass_off}
-use Rattle.stream.specs.Recorded.{deeper}
 use Rattle.stream.proofs.Settles.{nest_deeper}
 use Rattle.printer.proofs.Advances.{blocks_after}
 

@@ -1,9 +1,9 @@
 -- One call more.
-use Rattle.std.proofs.Common.{◌≡◌, ℕ, zero, suc, ◌+◌, ◌-◌, ◌<◌, ◌≤◌, Bool, true, false, cond, not, ◌&&◌, eqb, leb, ◌⊎◌, List, [], ◌∷◌, ◌++◌, length, Some, None, Ok, Err, Option, Result, sym, refl, ap, ◌∙◌, subst, inl, inr, ⊎_elim, arith}
-use Rattle.std.proofs.lemmas.Bool.{cases_Bool, cond-true, cond-false, le-leb, lt-leb, leb-true, and_parts, not_from_true, not_from_false}
+use Rattle.std.proofs.Common.{◌≡◌, ℕ, ◌<◌, ◌≤◌, true, false, not, eqb, leb, ◌⊎◌, List, [], ◌∷◌, ◌++◌, length, Some, None, Ok, Err, Option, Result, sym, refl, ap, ◌∙◌, subst, inl, inr, ⊎_elim, arith}
+use Rattle.std.proofs.lemmas.Bool.{cases_Bool, cond-true, cond-false, le-leb, lt-leb, leb-true, and_parts}
 use Rattle.std.proofs.lemmas.Bool.Decides.{nat_tests}
 use Rattle.lines.specs.Lines.{newlines}
-use Rattle.layout.specs.Tokens.{Token, Text, Break, Opening, Ending, nest}
+use Rattle.layout.specs.Tokens.{Token, Text, Break}
 use Rattle.layout.specs.Passing.{so_far, written, held_back}
 use Rattle.printer.specs.declared.printer.Printer.{Printer}
 use Rattle.printer.specs.Printing.{Prints}
@@ -11,10 +11,10 @@ use Rattle.direct.specs.declared.fault.DirectFault.{DirectFault}
 use Rattle.direct.specs.declared.fault.DirectFault.TheVariants.{Tokens, Range, Receipt as ReceiptFault, Blocks}
 use Rattle.direct.specs.declared.receipt.Receipt.{Receipt}
 use Rattle.direct.specs.Calls.{Call, text_call, break_call, opening_call, ending_call, call_token, printable, in_range, opened, met, meets, shallow_enough, refusal}
-use Rattle.direct.specs.Asking.{Fit, FitToken}
+use Rattle.direct.specs.Asking.{FitToken}
 use Rattle.direct.specs.Course.{Start, Course, going, broken, laid, after_laying, taken_or, answer_or, step, answer, course_from, course, standing}
 use Rattle.direct.specs.Standing.{Seen, Opened, Goes, Broke, By, Stands, Laid, QuietOr, Quiet, Called, Ready, PlainCall, Received, count_of}
-use Rattle.direct.proofs.Tables.{opened_push, opened_count}
+use Rattle.direct.proofs.Tables.{opened_push}
 
 course_more : (s : Start) (at : Course) (cs : List Call) (c : Call) → course_from s at (cs ++ c ∷ []) ≡ step s (course_from s at cs) c
 course_more s at [] c = refl

@@ -1,20 +1,18 @@
 -- A job is whole exactly when its calls let it be.
-use Rattle.std.proofs.Common.{◌≡◌, ℕ, zero, suc, ◌+◌, ◌<◌, ◌≤◌, Bool, true, false, cond, ◌&&◌, ◌||◌, eqb, ltb, leb, ◌⊎◌, List, [], ◌∷◌, ◌++◌, length, Some, None, Option, sym, refl, ap, ◌∙◌, subst, inl, inr, ⊎_elim, append_assoc, arith}
+use Rattle.std.proofs.Common.{◌≡◌, ℕ, true, false, eqb, leb, List, [], ◌∷◌, ◌++◌, length, Some, None, Option, sym, refl, ap, ◌∙◌, subst, ⊎_elim, append_assoc, arith}
 use Rattle.std.proofs.lemmas.List.{append-nil, nil_from_length}
-use Rattle.std.proofs.lemmas.Bool.{cases_Bool, cond-true, cond-false, and_parts, and_from, or_parts, or_from, ltb-true, lt-ltb, leb-true, leb-false, lt-leb, le-leb, eq-eqb, eqb-true, both_ways}
+use Rattle.std.proofs.lemmas.Bool.{cases_Bool, cond-true, cond-false, and_parts, and_from, or_parts, or_from, ltb-true, lt-ltb, leb-false, lt-leb, eq-eqb, eqb-true, both_ways}
 use Rattle.layout.specs.Tokens.{Token}
 use Rattle.layout.specs.Layout.{layout}
 use Rattle.layout.specs.Passing.{written, held_back}
-use Rattle.layout.specs.Laws.{Begins}
 use Rattle.layout.proofs.Passes.{written_begins}
 use Rattle.sink.specs.Rule.{Beginnings}
 use Rattle.direct.specs.declared.fault.DirectFault.{DirectFault}
 use Rattle.direct.specs.declared.fault.DirectFault.TheVariants.{Tokens, Range, Receipt, Blocks, Unended, Printing}
 use Rattle.direct.specs.declared.outcome.Outcome.{Outcome}
-use Rattle.direct.specs.declared.outcome.Outcome.TheVariants.{Whole, Fault}
 use Rattle.direct.specs.Calls.{Call, call_token, opened, refusal}
-use Rattle.direct.specs.Course.{Start, Course, going, broken, laid, taken_or, step, course_from, course, outcome, ends, whole, cut_of, print_pieces}
-use Rattle.direct.specs.Laws.{with_token, given_from, breaks, broken_from, room_or, room_from, given, WholeWhen, IsWhole, WholeExactly}
+use Rattle.direct.specs.Course.{Start, Course, going, broken, taken_or, course_from, course, outcome}
+use Rattle.direct.specs.Laws.{with_token, given_from, breaks, broken_from, room_or, room_from, given, IsWhole, WholeExactly}
 
 -- a broken course stays broken
 pub stays_broken : (s : Start) (f : DirectFault) (w : List ℕ) (cs : List Call) → course_from s (broken f w) cs ≡ broken f w

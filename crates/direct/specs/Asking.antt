@@ -1,5 +1,5 @@
 -- What a token must be to be laid out.
-use Rattle.std.specs.Prelude.{◌≡◌, ℕ, ◌<◌, ◌≤◌, List, length}
+use Rattle.std.specs.Prelude.{◌≡◌, ◌<◌, ◌≤◌, List, length}
 use Rattle.lines.specs.Lines.{newlines}
 use Rattle.layout.specs.Tokens.{Token, Text, Break, Opening, Ending, nest}
 

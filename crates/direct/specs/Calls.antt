@@ -1,8 +1,8 @@
 -- Direct calls, and which of them are refused before their token is laid out.
-use Rattle.std.specs.Prelude.{ℕ, suc, ◌+◌, Bool, true, false, cond, not, ◌&&◌, List, [], ◌∷◌, length, ℤ, pos, negsuc, Some, None, Option, ◌==◌, nat_le}
+use Rattle.std.specs.Prelude.{ℕ, suc, Bool, true, false, cond, not, ◌&&◌, List, [], ◌∷◌, length, ℤ, pos, negsuc, Some, None, Option, ◌==◌, nat_le}
 use Rattle.layout.specs.declared.token.Fold.{Fold}
 use Rattle.layout.specs.declared.token.Anchor.{Anchor}
-use Rattle.layout.specs.Tokens.{Token, Text, Break, Opening, Ending, nest}
+use Rattle.layout.specs.Tokens.{Token, Text, Break, Opening, Ending}
 use Rattle.direct.specs.declared.fault.DirectFault.{DirectFault}
 use Rattle.direct.specs.declared.fault.DirectFault.TheVariants.{Tokens, Range, Receipt, Blocks}
 

@@ -1,12 +1,11 @@
 -- What every list of direct calls comes to.
-use Rattle.std.specs.Prelude.{ℕ, ◌+◌, min, Bool, true, false, cond, List, [], ◌∷◌, ◌++◌, length, Some, None, Ok, Err, Option, Result, ◌==◌, nat_le}
+use Rattle.std.specs.Prelude.{ℕ, min, cond, List, [], ◌∷◌, ◌++◌, length, Some, None, Ok, Err, Option, Result, ◌==◌, nat_le}
 use Rattle.lines.specs.Lines.{newlines, widest}
-use Rattle.layout.specs.Tokens.{Token, Text, Break, Opening, Ending, nest}
+use Rattle.layout.specs.Tokens.{Token}
 use Rattle.layout.specs.Layout.{start, pieces, ended, joined, layout}
 use Rattle.layout.specs.Passing.{most_held, so_far, written, held_back}
 use Rattle.sink.specs.Rule.{Rule, kept}
-use Rattle.sink.specs.Fault.{fault_for}
-use Rattle.printer.specs.declared.fault.PrinterFault.TheVariants.{Full, Sink}
+use Rattle.printer.specs.declared.fault.PrinterFault.TheVariants.{Full}
 use Rattle.printer.specs.Printing.{cut_fault}
 use Rattle.direct.specs.declared.fault.DirectFault.{DirectFault}
 use Rattle.direct.specs.declared.fault.DirectFault.TheVariants.{Tokens, Range, Receipt, Blocks, Unended, Printing}

@@ -11,7 +11,7 @@ use Rattle.direct.specs.declared.fault.DirectFault.TheVariants.{Tokens, Range, R
 use Rattle.direct.specs.declared.outcome.Outcome.{Outcome}
 use Rattle.direct.specs.declared.outcome.Outcome.TheVariants.{Whole, Fault}
 use Rattle.direct.specs.Calls.{Call, call_token, opened, refusal}
-use Rattle.direct.specs.Course.{Start, Course, going, broken, step, course, outcome, whole}
+use Rattle.direct.specs.Course.{Start, Course, going, broken, step, whole}
 
 -- the tokens not refused by a direct call's refusal, behind the tokens ts of the job of that number
 abbrev pub with_token : List Token → Call → Option DirectFault → List Token

@@ -1,18 +1,17 @@
 -- Where a job stands after a list of calls.
 use Rattle.std.specs.Prelude.{◌≡◌, ℕ, ◌<◌, ◌≤◌, true, List, [], ◌∷◌, ◌++◌, reverse, length, take, Some, None, Ok, Err, Option, Result}
-use Rattle.layout.specs.Tokens.{Token, Text, Break, Opening, Ending}
+use Rattle.layout.specs.Tokens.{Token}
 use Rattle.layout.specs.Passing.{so_far, written, held_back}
 use Rattle.sink.specs.Rule.{Rule, Beginnings}
 use Rattle.printer.specs.declared.printer.Printer.{Printer}
 use Rattle.printer.specs.Printing.{Prints}
 use Rattle.direct.specs.declared.fault.DirectFault.{DirectFault}
-use Rattle.direct.specs.declared.fault.DirectFault.TheVariants.{Tokens, Range, Receipt as ReceiptFault, Blocks, Unended, Printing}
 use Rattle.direct.specs.declared.receipt.Receipt.{Receipt}
 use Rattle.direct.specs.declared.outcome.Outcome.{Outcome}
 use Rattle.direct.specs.declared.outcome.Outcome.TheVariants.{Fault}
 use Rattle.direct.specs.declared.job.DirectJob.{DirectJob}
 use Rattle.direct.specs.Calls.{Call, text_call, break_call, opening_call, ending_call, opened, refusal}
-use Rattle.direct.specs.Course.{Start, Course, going, broken, course, laid, answer, after_laying, outcome, left}
+use Rattle.direct.specs.Course.{Start, Course, going, broken, course, laid, answer, outcome, left}
 
 -- a job as plain values: its sink's text and rule, its printer, its number, its count of tokens, the numbers of its open blocks, and its fault
 pub record Seen : Type 0 where

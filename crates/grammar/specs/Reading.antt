@@ -5,7 +5,7 @@ use Rattle.layout.specs.Tokens.{Token, Ending}
 use Rattle.layout.specs.View.{view}
 use Rattle.grammar.specs.declared.refusal.Refusal.{Refusal}
 use Rattle.grammar.specs.declared.grammar.Step.{Step}
-use Rattle.grammar.specs.Meaning.{Word, Next, byte, end, Answer, refused, gives, Meaning, after}
+use Rattle.grammar.specs.Meaning.{Word, byte, end, Answer, refused, gives, Meaning, after}
 
 -- the answer gives the tokens ts, and the counts of its words and tokens
 abbrev pub Gives : Answer → List Token → Step → Type 0

@@ -1,5 +1,5 @@
 -- The brackets of the rules' place are as many as the kinds of the words say.
-use Rattle.std.proofs.Common.{◌≡◌, ℕ, suc, pred, ◌<◌, Bool, true, false, cond, not, ◌&&◌, ◌||◌, leb, ◌⊎◌, List, [], ◌∷◌, length, Some, None, Option, sym, refl, ap, ◌∙◌, subst, inl, inr}
+use Rattle.std.proofs.Common.{◌≡◌, ℕ, suc, pred, ◌<◌, Bool, true, false, cond, ◌&&◌, ◌||◌, leb, List, [], ◌∷◌, length, Some, None, Option, sym, refl, ap, ◌∙◌, subst, inl, inr}
 use Rattle.std.proofs.lemmas.Bool.{both_ways, and_parts, or_parts, not-true, cond-true, cond-false, leb-false, lt-leb}
 use Rattle.grammar.specs.Meaning.{Word}
 use Rattle.grammar.specs.Laws.{most_open}

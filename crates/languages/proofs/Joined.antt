@@ -1,5 +1,5 @@
 -- Rules that agree with a language in every test, spelling and sentence read that language.
-use Rattle.std.proofs.Common.{◌≡◌, ℕ, suc, ◌+◌, Bool, true, false, List, [], ◌∷◌, ◌++◌, length, sym, refl, ap, ◌∙◌, subst, append_assoc}
+use Rattle.std.proofs.Common.{◌≡◌, ℕ, suc, ◌+◌, Bool, true, List, [], ◌∷◌, length, sym, refl, ap, ◌∙◌, subst, append_assoc}
 use Rattle.grammar.specs.Meaning.{Word, words}
 use Rattle.grammar.specs.Laws.{most_bytes}
 use Rattle.rules.specs.declared.word.Kind.{Kind}
@@ -9,7 +9,7 @@ use Rattle.rules.specs.Language.{Written, nothing, blank_byte, word_then, Writte
 use Rattle.rules.specs.Lawful.{Lawful, AllSpelled}
 use Rattle.rules.proofs.Writing.{written_alike, all_spelled}
 use Rattle.reading.specs.Places.{Placed, places}
-use Rattle.reading.specs.Story.{Story, whole, story_of}
+use Rattle.reading.specs.Story.{whole}
 use Rattle.reading.specs.Judging.{KeptDocument, ByteOfWord}
 use Rattle.reading.proofs.Complete.{words_in, words_written}
 use Rattle.reading.proofs.Judges.{three_if_hopeless}

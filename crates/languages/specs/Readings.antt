@@ -1,13 +1,13 @@
 -- Sample records as texts: the tokens of their words, or where they are refused.
-use Rattle.std.specs.Prelude.{◌≡◌, ℕ, Bool, true, false, List, [], ◌∷◌, pos, negsuc, codes}
+use Rattle.std.specs.Prelude.{◌≡◌, ℕ, true, List, [], ◌∷◌, pos, codes}
 use Rattle.layout.specs.declared.token.Fold.TheVariants.{All}
 use Rattle.layout.specs.declared.token.Anchor.TheVariants.{Indent}
-use Rattle.layout.specs.Tokens.{Token, Text, Break, Opening, Ending}
+use Rattle.layout.specs.Tokens.{Token, Text, Opening, Ending}
 use Rattle.layout.specs.Records.{tare, split}
 use Rattle.grammar.specs.Meaning.{Meaning, accepted, tokens, words}
 use Rattle.rules.specs.Machine.{grammar_of}
 use Rattle.reading.specs.Places.{Placed}
-use Rattle.reading.specs.Story.{Story, whole, broken, story_of}
+use Rattle.reading.specs.Story.{whole, broken, story_of}
 use Rattle.json_language.specs.Rules.{json_rules}
 use Rattle.sexpr_language.specs.Rules.{sexpr_rules}
 

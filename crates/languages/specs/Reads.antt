@@ -1,6 +1,6 @@
 -- What it is for rules to read a language that is stated on its own, by the bytes that are blank, the kinds of words, the
 -- bytes that delimit them, their spelling, and which words are a document.
-use Rattle.std.specs.Prelude.{◌≡◌, ℕ, suc, Bool, true, false, List, [], ◌∷◌, ◌++◌, length}
+use Rattle.std.specs.Prelude.{◌≡◌, ℕ, suc, Bool, true, false, List, ◌∷◌, ◌++◌, length}
 use Rattle.grammar.specs.Meaning.{Word, byte, end, refused, taken, accepted, words}
 use Rattle.grammar.specs.Laws.{Laws, most_bytes}
 use Rattle.rules.specs.declared.word.Kind.{Kind}
@@ -8,7 +8,7 @@ use Rattle.rules.specs.Rules.{Rules}
 use Rattle.rules.specs.Machine.{grammar_of}
 use Rattle.rules.specs.Language.{Written, keeps_limits}
 use Rattle.reading.specs.Places.{places}
-use Rattle.reading.specs.Story.{Story, whole, story_of}
+use Rattle.reading.specs.Story.{whole, story_of}
 use Rattle.reading.specs.Judging.{ByteOfWord}
 use Rattle.languages.specs.Limits.{TooDeep}
 

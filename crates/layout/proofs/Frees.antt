@@ -1,8 +1,8 @@
 -- A layout is one of the free writings of its tokens.
-use Rattle.std.proofs.Common.{◌≡◌, ℕ, zero, suc, Bool, true, false, cond, List, [], ◌∷◌, ◌++◌, sym, refl, ap, ◌∙◌, append_assoc}
+use Rattle.std.proofs.Common.{◌≡◌, ℕ, zero, suc, Bool, true, false, cond, List, [], ◌∷◌, ◌++◌, refl, ap, ◌∙◌}
 use Rattle.layout.specs.Tokens.{Token, Text, Break, Opening, Ending}
-use Rattle.layout.specs.Layout.{Pen, start, innermost, stays, blanks, next_indent, writes, after, fits, pieces, ended, joined, layout}
-use Rattle.layout.specs.Writings.{Choice, as_blanks, as_line, chosen, shown, shown_all, free_writing}
+use Rattle.layout.specs.Layout.{Pen, start, innermost, stays, blanks, next_indent, writes, after, fits, pieces, ended, joined}
+use Rattle.layout.specs.Writings.{Choice, as_blanks, as_line, chosen, shown, shown_all}
 use Rattle.layout.specs.Laws.{LayoutIsFree}
 use Rattle.layout.proofs.Passes.{joined_append}
 

@@ -1,12 +1,11 @@
 -- Passing token by token writes the layout: a decision, once made, stands.
-use Rattle.std.proofs.Common.{◌≡◌, ℕ, zero, suc, pred, ◌+◌, ◌<◌, ◌≤◌, Bool, true, false, cond, not, ◌||◌, leb, ◌⊎◌, List, [], ◌∷◌, ◌++◌, length, sym, refl, ap, ◌∙◌, subst, inl, inr, ⊎_elim, append_assoc, arith}
+use Rattle.std.proofs.Common.{◌≡◌, ℕ, zero, suc, pred, ◌+◌, ◌≤◌, Bool, true, false, not, ◌||◌, leb, ◌⊎◌, List, [], ◌∷◌, ◌++◌, length, sym, refl, ap, ◌∙◌, subst, inl, inr, ⊎_elim, append_assoc, arith}
 use Rattle.std.proofs.lemmas.List.{append-nil}
-use Rattle.std.proofs.lemmas.Bool.{cases_Bool, cond-true, cond-false, leb-true, leb-false, lt-leb, or_cases, or_parts, or_left, or_right, not-true, not-false, not_from_false, both_ways}
-use Rattle.std.proofs.lemmas.Bool.Decides.{nat_tests}
+use Rattle.std.proofs.lemmas.Bool.{cases_Bool, cond-true, cond-false, leb-true, leb-false, lt-leb, or_cases, or_parts, or_left, or_right, not-true, not-false, both_ways}
 use Rattle.layout.specs.Tokens.{Token, Text, Break, Opening, Ending, width, widths, opens, reached, before_reach, size, free}
-use Rattle.layout.specs.Layout.{Pen, start, writes, after, fits, pieces, ended, joined, layout}
+use Rattle.layout.specs.Layout.{Pen, start, writes, after, fits, pieces, ended, joined}
 use Rattle.layout.specs.Passing.{Passed, pass, behind, decided, so_far, written, held_back}
-use Rattle.layout.specs.Laws.{onto, Begins, WrittenBegins, HeldIsNarrow, PassingJoins, RestFollows}
+use Rattle.layout.specs.Laws.{onto, WrittenBegins, HeldIsNarrow, PassingJoins, RestFollows}
 
 pub joined_append : (ps qs : List (List ℕ)) → joined (ps ++ qs) ≡ joined ps ++ joined qs
 joined_append [] qs = refl

@@ -1,7 +1,7 @@
 -- The laws of the layout that printing rests on.
-use Rattle.std.specs.Prelude.{◌≡◌, ℕ, ◌+◌, ◌≤◌, Bool, true, false, List, [], ◌∷◌, ◌++◌}
+use Rattle.std.specs.Prelude.{◌≡◌, ℕ, ◌≤◌, Bool, true, false, List, ◌++◌}
 use Rattle.layout.specs.Tokens.{Token, widths}
-use Rattle.layout.specs.Layout.{Pen, start, ended, joined, layout}
+use Rattle.layout.specs.Layout.{Pen, ended, joined, layout}
 use Rattle.layout.specs.Passing.{Passed, pass, so_far, written, held_back}
 use Rattle.layout.specs.Writings.{Choice, free_writing}
 

@@ -1,5 +1,5 @@
 -- The limits of an indentation, and of the column that a program keeps.
-use Rattle.std.specs.Prelude.{ℕ, ◌+◌, ◌-◌, min, ℤ, pos, negsuc, ◌+ℤ◌}
+use Rattle.std.specs.Prelude.{ℕ, ◌-◌, min, ℤ, pos, negsuc, ◌+ℤ◌}
 
 -- a whole number, limited to 0 to top
 abbrev pub limited : ℕ → ℤ → ℕ

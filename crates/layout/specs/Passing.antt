@@ -1,5 +1,5 @@
 -- What may be written while tokens still come: what is passed, and what is held back.
-use Rattle.std.specs.Prelude.{ℕ, Bool, true, false, cond, not, ◌||◌, List, [], ◌∷◌, ◌++◌}
+use Rattle.std.specs.Prelude.{ℕ, Bool, false, cond, not, ◌||◌, List, [], ◌∷◌}
 use Rattle.layout.specs.Tokens.{Token, opens, free, reached}
 use Rattle.layout.specs.Layout.{Pen, start, writes, after, fits, joined}
 

@@ -1,5 +1,5 @@
 -- Three sample records at margin 16, as tokens, and what their layouts are.
-use Rattle.std.specs.Prelude.{◌≡◌, ℕ, Bool, true, false, ◌&&◌, List, [], ◌∷◌, ◌++◌, length, pos, negsuc, codes, ◌==◌}
+use Rattle.std.specs.Prelude.{◌≡◌, ℕ, Bool, true, false, ◌&&◌, List, [], ◌∷◌, length, pos, negsuc, codes, ◌==◌}
 use Rattle.lines.specs.Lines.{newlines, widest}
 use Rattle.layout.specs.declared.token.Fold.TheVariants.{All, Each}
 use Rattle.layout.specs.declared.token.Anchor.TheVariants.{Column, Indent}

@@ -1,5 +1,5 @@
 -- What is laid out: texts, breaks between them, and blocks of these.
-use Rattle.std.specs.Prelude.{ℕ, zero, suc, pred, ◌+◌, Bool, true, false, ◌||◌, List, [], ◌∷◌, length, ℤ}
+use Rattle.std.specs.Prelude.{ℕ, zero, suc, pred, ◌+◌, Bool, true, false, List, [], ◌∷◌, length, ℤ}
 use Rattle.layout.specs.declared.token.Fold.{Fold}
 use Rattle.layout.specs.declared.token.Anchor.{Anchor}
 

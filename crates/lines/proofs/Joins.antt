@@ -1,6 +1,6 @@
 -- The lines of a text that is added to.
-use Rattle.std.proofs.Common.{◌≡◌, ℕ, zero, suc, ◌+◌, ◌≤◌, max, Bool, true, false, cond, eqb, List, [], ◌∷◌, ◌++◌, length, replicate, refl, ap, arith}
-use Rattle.lines.specs.Lines.{newlines, last_from, last_line, widest_from, widest}
+use Rattle.std.proofs.Common.{◌≡◌, ℕ, zero, suc, ◌+◌, ◌≤◌, max, true, false, cond, eqb, List, [], ◌∷◌, ◌++◌, length, replicate, refl, arith}
+use Rattle.lines.specs.Lines.{newlines, last_from, widest_from}
 
 pub newlines_append : (xs ys : List ℕ) → newlines (xs ++ ys) ≡ newlines xs + newlines ys
 newlines_append [] ys = omega arith

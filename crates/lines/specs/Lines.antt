@@ -1,5 +1,5 @@
 -- The lines of a text, whose bytes 0x0A are newlines.
-use Rattle.std.specs.Prelude.{ℕ, ◌+◌, max, Bool, true, false, cond, List, [], ◌∷◌, ◌++◌, length, ◌==◌}
+use Rattle.std.specs.Prelude.{ℕ, ◌+◌, max, cond, List, [], ◌∷◌, ◌++◌, length, ◌==◌}
 
 -- how many newlines a text has
 abbrev pub newlines : List ℕ → ℕ

@@ -1,9 +1,9 @@
 -- The first token passes, or the sink cuts it.
-use Rattle.std.proofs.Common.{◌≡◌, ℕ, zero, suc, pred, ◌+◌, ◌-◌, ◌^◌, ◌<◌, ◌≤◌, min, Bool, true, false, List, [], ◌∷◌, ◌++◌, length, Ok, Err, Result, sym, refl, ap, ◌∙◌, subst, arith}
+use Rattle.std.proofs.Common.{◌≡◌, ℕ, suc, pred, ◌+◌, ◌-◌, ◌^◌, min, Bool, true, List, [], ◌∷◌, ◌++◌, length, Ok, Err, Result, sym, refl, ap, ◌∙◌, subst, arith}
 use Rattle.layout.specs.declared.token.Block.{Block}
 use Rattle.layout.specs.Tokens.{Token, Text, Break, Opening, Ending}
 use Rattle.layout.specs.Layout.{Pen as LayoutPen, enclosing, writes, after, fits}
-use Rattle.layout.specs.Passing.{decided, pass}
+use Rattle.layout.specs.Passing.{pass}
 use Rattle.layout.proofs.Passes.{pass_off}
 use Rattle.stream.specs.declared.record.Held.{Held}
 use Rattle.stream.specs.Recorded.{shape, deeper, Shallow}
@@ -20,8 +20,7 @@ use Rattle.printer.specs.declared.fault.PrinterFault.TheVariants.{Sink}
 use Rattle.printer.specs.declared.printer.Printer.{Printer}
 use Rattle.printer.specs.declared.printer.passing.Turn.TheVariants.{Wait, Pass}
 use Rattle.printer.specs.Faults.{numbered}
-use Rattle.printer.specs.Writing.{Wrote}
-use Rattle.printer.specs.Printing.{capped, Prints, Turned, Moved, Stepped, Decided, piece, next, Advanced}
+use Rattle.printer.specs.Printing.{Prints, Turned, Moved, Stepped, Decided, piece, next, Advanced}
 
 -- what the numbered answer says of the sink's
 pub numbered_err : (token : ℕ) (r : Result (Unit {0}) SinkFault) (a : AtToken) → numbered token r ≡ Err a → (f : SinkFault) × (r ≡ Err f) × (a ≡ record { fault = f; token = token })

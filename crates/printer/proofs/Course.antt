@@ -1,17 +1,16 @@
 -- Passing token by token: what stands after each turn.
-use Rattle.std.proofs.Common.{◌≡◌, ℕ, zero, suc, ◌+◌, ◌-◌, ◌<◌, ◌≤◌, Bool, true, false, cond, List, [], ◌∷◌, ◌++◌, length, Ok, Err, Result, sym, refl, ap, ◌∙◌, subst, append_assoc, arith}
-use Rattle.std.proofs.lemmas.List.{length-append, length_push, append-nil, nil_from_length}
+use Rattle.std.proofs.Common.{◌≡◌, ℕ, suc, ◌+◌, ◌≤◌, Bool, true, List, [], ◌∷◌, ◌++◌, length, Ok, Err, Result, sym, refl, ap, ◌∙◌, subst, append_assoc, arith}
+use Rattle.std.proofs.lemmas.List.{length_push, append-nil, nil_from_length}
 use Rattle.layout.specs.Tokens.{Token}
-use Rattle.layout.specs.Layout.{Pen as LayoutPen, writes, after, fits, joined}
-use Rattle.layout.specs.Passing.{Passed, behind, decided, pass}
+use Rattle.layout.specs.Layout.{Pen as LayoutPen, joined}
+use Rattle.layout.specs.Passing.{Passed, behind, pass}
 use Rattle.layout.specs.Laws.{onto}
 use Rattle.layout.proofs.Passes.{pass_on}
-use Rattle.sink.specs.declared.fault.SinkFault.{SinkFault}
 use Rattle.sink.specs.Rule.{Beginnings, Rule, kept}
 use Rattle.sink.specs.Fault.{Cut}
 use Rattle.printer.specs.declared.fault.PrinterFault.{PrinterFault}
 use Rattle.printer.specs.declared.printer.Printer.{Printer}
-use Rattle.printer.specs.Printing.{capped, Prints, Decided, piece, next, Advanced, Printed, Passes}
+use Rattle.printer.specs.Printing.{Prints, piece, next, Advanced, Printed, Passes}
 use Rattle.printer.proofs.Pieces.{joined_push, cut_at}
 
 module _ (over : Bool) (m : ℕ) (pen : LayoutPen) (h : List Token) (number : ℕ) (out : List ℕ) (rule : Rule) (before : List ℕ) (older : ℕ) where

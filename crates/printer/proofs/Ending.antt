@@ -1,18 +1,17 @@
 -- A token is given, and the document ends.
-use Rattle.std.proofs.Common.{◌≡◌, ℕ, zero, suc, ◌+◌, ◌-◌, ◌<◌, ◌≤◌, Bool, true, false, cond, eqb, List, [], ◌∷◌, ◌++◌, length, Ok, Err, Result, sym, refl, ap, ◌∙◌, subst, append_assoc, arith}
-use Rattle.std.proofs.lemmas.List.{append-nil, length-append}
-use Rattle.std.proofs.lemmas.Bool.{cond-true, cond-false, eq-eqb, ne_eqb}
+use Rattle.std.proofs.Common.{◌≡◌, ℕ, suc, ◌+◌, ◌<◌, true, false, eqb, List, [], ◌∷◌, ◌++◌, length, Ok, Err, Result, sym, refl, ap, ◌∙◌, subst, append_assoc, arith}
+use Rattle.std.proofs.lemmas.Bool.{cond-false, ne_eqb}
 use Rattle.layout.specs.Tokens.{Token}
-use Rattle.layout.specs.Layout.{Pen as LayoutPen, writes, after, fits, joined}
+use Rattle.layout.specs.Layout.{Pen as LayoutPen, after, fits, joined}
 use Rattle.layout.specs.Passing.{most_held, pass}
-use Rattle.layout.proofs.Passes.{joined_append, pass_all}
-use Rattle.sink.specs.Rule.{Beginnings, Rule, kept}
+use Rattle.layout.proofs.Passes.{joined_append}
+use Rattle.sink.specs.Rule.{Beginnings, Rule}
 use Rattle.printer.specs.declared.fault.PrinterFault.{PrinterFault}
 use Rattle.printer.specs.declared.fault.PrinterFault.TheVariants.{Full, Sink}
 use Rattle.pen.specs.declared.pen.Pen.{Pen}
 use Rattle.printer.specs.declared.printer.Printer.{Printer}
-use Rattle.printer.specs.Printing.{capped, Printed, Passes, Prints}
-use Rattle.printer.specs.Giving.{Given, Room, end_piece, Counted, Ended, last_pieces, Finished}
+use Rattle.printer.specs.Printing.{Printed, Passes}
+use Rattle.printer.specs.Giving.{Given, Room, end_piece, Counted, Ended, Finished}
 use Rattle.printer.proofs.Pieces.{printed_front, printed_ok, printed_cut}
 
 pub given_full : (m : ℕ) (pen : LayoutPen) (h : List Token) (number : ℕ) (out : List ℕ) (t : Token) (rule : Rule) (before : List ℕ) (older : ℕ) (text : List ℕ) (p : Printer) (Same : Type 0) (f : PrinterFault) → Room h number (Err f) → Same → Given m pen h number out t rule before older text p Same (Err f)

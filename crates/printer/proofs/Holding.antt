@@ -1,14 +1,13 @@
 -- A token is held back behind the others.
-use Rattle.std.proofs.Common.{◌≡◌, ℕ, zero, suc, pred, ◌+◌, ◌<◌, ◌≤◌, List, [], ◌∷◌, ◌++◌, length, sym, refl, ap, ◌∙◌, subst, arith}
+use Rattle.std.proofs.Common.{◌≡◌, ℕ, pred, ◌≤◌, List, [], ◌∷◌, ◌++◌, length, sym, refl, ◌∙◌, subst, arith}
 use Rattle.std.proofs.lemmas.List.{length-append}
 use Rattle.lines.specs.Lines.{newlines}
-use Rattle.layout.specs.Tokens.{Token, Text, Break, Opening, Ending, width, widths, nest}
+use Rattle.layout.specs.Tokens.{Token, Text, Break, Opening, Ending, width, widths}
 use Rattle.layout.specs.Layout.{Pen as LayoutPen}
 use Rattle.stream.specs.Recorded.{text_of, texts, deeper, Shallow}
 use Rattle.stream.proofs.Settles.{nest_deeper}
 use Rattle.scan.specs.Holding.{Holds}
 use Rattle.pen.specs.At.{At}
-use Rattle.pen.specs.declared.pen.Pen.{Pen}
 use Rattle.printer.specs.declared.printer.Printer.{Printer}
 use Rattle.printer.specs.Printing.{Plain, Prints}
 use Rattle.printer.specs.Giving.{Next}

@@ -1,5 +1,5 @@
 -- Pieces written one after another are one run: what a cut leaves, and which piece it is in.
-use Rattle.std.proofs.Common.{◌≡◌, ℕ, zero, suc, ◌+◌, ◌-◌, ◌<◌, ◌≤◌, Bool, true, false, cond, ltb, List, [], ◌∷◌, ◌++◌, length, Ok, Err, sym, refl, ap, ◌∙◌, subst, ⊎_elim, append_assoc, arith}
+use Rattle.std.proofs.Common.{◌≡◌, ℕ, suc, ◌+◌, ◌-◌, ◌<◌, true, List, [], ◌∷◌, ◌++◌, length, Ok, Err, sym, refl, ap, ◌∙◌, subst, ⊎_elim, append_assoc, arith}
 use Rattle.std.proofs.lemmas.List.{length-append, append-nil}
 use Rattle.std.proofs.lemmas.Bool.{cond-true, cond-false, lt-ltb, le-ltb, cases_lt}
 use Rattle.layout.specs.Layout.{joined}
@@ -11,7 +11,7 @@ use Rattle.sink.proofs.Kept.{kept_behind, kept_front, kept_over}
 use Rattle.sink.proofs.Runs.{cut_front, cut_behind}
 use Rattle.printer.specs.declared.fault.PrinterFault.{PrinterFault}
 use Rattle.printer.specs.declared.fault.PrinterFault.TheVariants.{Sink}
-use Rattle.printer.specs.Printing.{capped, piece_at, cut_fault, Printed}
+use Rattle.printer.specs.Printing.{capped, piece_at, Printed}
 
 piece_here : (n : ℕ) (w : List ℕ) (rest : List (List ℕ)) → n < length w → piece_at n (w ∷ rest) ≡ 0
 piece_here n w rest l = cond-true _ _ _ (lt-ltb n (length w) l)

@@ -1,17 +1,14 @@
 -- Whether the first token passes, from its record.
-use Rattle.std.proofs.Common.{◌≡◌, ℕ, zero, suc, ◌+◌, ◌-◌, ◌<◌, ◌≤◌, Bool, true, false, cond, not, ◌||◌, leb, ◌⊎◌, List, [], ◌∷◌, ◌++◌, length, Some, None, Option, sym, refl, ap, ◌∙◌, subst, inl, inr, ⊎_elim, arith}
-use Rattle.std.proofs.lemmas.Bool.{cases_Bool, cond-true, cond-false, or_left, or_right, or_cases, or_from, not-false, not-true, not_from_true, not_from_false}
+use Rattle.std.proofs.Common.{◌≡◌, ℕ, ◌+◌, Bool, true, false, cond, not, leb, ◌⊎◌, List, [], ◌∷◌, Some, None, sym, ap, ◌∙◌, ⊎_elim, arith}
+use Rattle.std.proofs.lemmas.Bool.{cases_Bool, cond-true, cond-false, or_left, or_right, or_cases, or_from, not-false}
 use Rattle.layout.specs.Tokens.{Token, width, widths, opens, reached, size, free}
 use Rattle.layout.specs.Layout.{Pen as LayoutPen, writes, after, fits}
-use Rattle.layout.specs.Passing.{decided}
 use Rattle.layout.proofs.Passes.{before_unreached, writes_free, after_free}
-use Rattle.stream.specs.declared.record.Extent.{Extent}
 use Rattle.stream.specs.declared.record.Extent.TheVariants.{Known, Waiting}
 use Rattle.stream.specs.declared.record.Slot.{Slot}
-use Rattle.stream.specs.Recorded.{shape, waiting, extent, slotted}
+use Rattle.stream.specs.Recorded.{waiting, extent, slotted}
 use Rattle.stream.proofs.Settles.{waiting_true}
 use Rattle.scan.specs.First.{First}
-use Rattle.printer.specs.declared.printer.passing.Turn.{Turn}
 use Rattle.printer.specs.declared.printer.passing.Turn.TheVariants.{Wait, Pass}
 use Rattle.printer.specs.Printing.{Turned}
 

@@ -1,16 +1,15 @@
 -- The first token is written, by its shape.
-use Rattle.std.proofs.Common.{◌≡◌, ℕ, ◌+◌, ◌<◌, ◌≤◌, Bool, true, false, List, [], ◌∷◌, ◌++◌, length, ℤ, Ok, Err, Result, sym, refl, ap, ◌∙◌, subst, arith}
+use Rattle.std.proofs.Common.{◌≡◌, ℕ, ◌≤◌, Bool, true, List, [], ◌∷◌, ◌++◌, length, ℤ, Ok, Result, sym, ap, ◌∙◌, subst, arith}
 use Rattle.std.proofs.lemmas.List.{append-nil}
 use Rattle.layout.specs.declared.token.Fold.{Fold}
 use Rattle.layout.specs.declared.token.Anchor.{Anchor}
 use Rattle.layout.specs.Tokens.{Token, Text, Break, Opening, Ending}
 use Rattle.layout.specs.Layout.{Pen as LayoutPen, writes, after}
-use Rattle.stream.specs.declared.record.Held.{Held}
 use Rattle.stream.specs.declared.record.Held.TheVariants.{Text as TextHeld, Break as BreakHeld, Opening as OpeningHeld, Ending as EndingHeld}
 use Rattle.stream.specs.Recorded.{shape, Shallow}
 use Rattle.pen.specs.At.{At}
 use Rattle.sink.specs.declared.fault.SinkFault.{SinkFault}
-use Rattle.sink.specs.Rule.{Rule, kept}
+use Rattle.sink.specs.Rule.{Rule}
 use Rattle.printer.specs.declared.printer.Printer.{Printer}
 use Rattle.printer.specs.Writing.{Wrote}
 use Rattle.printer.specs.Printing.{Prints, Moved, Stepped}

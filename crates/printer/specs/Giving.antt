@@ -1,5 +1,5 @@
 -- What a token that comes, and the end, make of a print.
-use Rattle.std.specs.Prelude.{◌≡◌, ℕ, ◌+◌, ◌<◌, ◌≤◌, Bool, true, false, cond, List, [], ◌∷◌, ◌++◌, length, Ok, Err, Result, ◌==◌}
+use Rattle.std.specs.Prelude.{◌≡◌, ℕ, ◌+◌, ◌<◌, ◌≤◌, true, false, cond, List, [], ◌∷◌, ◌++◌, length, Ok, Err, Result, ◌==◌}
 use Rattle.lines.specs.Lines.{newlines}
 use Rattle.layout.specs.Tokens.{Token, Text, Break, Opening, Ending, nest}
 use Rattle.layout.specs.Layout.{Pen as LayoutPen, joined}

@@ -3,8 +3,7 @@ use Rattle.std.specs.Prelude.{◌≡◌, ℕ, suc, ◌+◌, ◌-◌, ◌^◌, �
 use Rattle.lines.specs.Lines.{newlines}
 use Rattle.layout.specs.Tokens.{Token}
 use Rattle.layout.specs.Layout.{Pen as LayoutPen, writes, after, fits, joined}
-use Rattle.layout.specs.Passing.{Passed, decided, pass}
-use Rattle.stream.specs.declared.record.Held.{Held}
+use Rattle.layout.specs.Passing.{decided, pass}
 use Rattle.stream.specs.Recorded.{shape, text_of, Shallow}
 use Rattle.scan.specs.Holding.{Holds}
 use Rattle.pen.specs.At.{At}
@@ -12,7 +11,7 @@ use Rattle.sink.specs.declared.fault.SinkFault.{SinkFault}
 use Rattle.sink.specs.Rule.{Rule, kept}
 use Rattle.sink.specs.Fault.{Cut, fault_of}
 use Rattle.printer.specs.declared.fault.PrinterFault.{PrinterFault}
-use Rattle.printer.specs.declared.fault.PrinterFault.TheVariants.{Full, Sink}
+use Rattle.printer.specs.declared.fault.PrinterFault.TheVariants.{Sink}
 use Rattle.printer.specs.Writing.{Wrote}
 use Rattle.printer.specs.declared.printer.passing.Turn.{Turn}
 use Rattle.printer.specs.declared.printer.passing.Turn.TheVariants.{Wait, Pass}

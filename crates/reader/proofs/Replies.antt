@@ -1,5 +1,5 @@
 -- What a reader answers.
-use Rattle.std.proofs.Common.{◌≡◌, ℕ, ◌+◌, Bool, true, false, eqb, List, [], ◌∷◌, ◌++◌, length, is_some as option_is_some, Some, None, Ok, Option, sym, refl, ap, ◌∙◌, subst, arith}
+use Rattle.std.proofs.Common.{◌≡◌, ℕ, ◌+◌, Bool, true, false, eqb, List, ◌∷◌, ◌++◌, length, is_some as option_is_some, Some, None, Ok, Option, sym, refl, ap, ◌∙◌, subst, arith}
 use mir.Val.{bool_byte}
 use Rattle.std.proofs.lemmas.List.{length-append}
 use Rattle.std.proofs.lemmas.Bool.Decides.{nat_tests}
@@ -7,13 +7,12 @@ use Rattle.layout.specs.Tokens.{Text}
 use Rattle.grammar.specs.declared.grammar.Step.{Step}
 use Rattle.grammar.specs.Meaning.{Word}
 use Rattle.grammar.specs.Reading.{Took}
-use Rattle.rules.specs.declared.place.Expects.{Expects}
 use Rattle.rules.specs.declared.place.BlockForm.{BlockForm}
 use Rattle.rules.specs.declared.place.Lead.{Lead}
 use Rattle.rules.specs.Rules.{Rules, Place, is_some, led}
-use Rattle.rules.specs.Machine.{State, step, next, means, grammar_of, no_brackets}
+use Rattle.rules.specs.Machine.{State, step, next, means, no_brackets}
 use Rattle.reading.specs.Accepts.{at}
-use Rattle.reading.proofs.Fit.{Fit, fit_fresh, fit_next}
+use Rattle.reading.proofs.Fit.{Fit, fit_next}
 use Rattle.reader.specs.declared.piece.Piece.{Piece}
 use Rattle.reader.specs.Pieces.{opening, ending, bit}
 use Rattle.reader.specs.State.{Held, state_at, under_way, word_if, tokens_if, count_if, ended_by, given_by}

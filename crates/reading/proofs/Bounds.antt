@@ -1,18 +1,18 @@
 -- Where words stand: those that bytes have ended lie before the next byte, and those to come do not begin before it.
-use Rattle.std.proofs.Common.{◌≡◌, ℕ, zero, suc, ◌+◌, ◌-◌, ◌<◌, ◌≤◌, Bool, true, false, cond, ◌&&◌, ◌⊎◌, List, [], ◌∷◌, ◌++◌, length, Some, None, Option, sym, refl, ap, ◌∙◌, subst, inl, inr, ⊎_elim, append_assoc, arith}
-use Rattle.std.proofs.lemmas.List.{append-nil, length-append}
+use Rattle.std.proofs.Common.{◌≡◌, ℕ, suc, ◌+◌, ◌-◌, ◌≤◌, Bool, true, false, cond, ◌&&◌, List, [], ◌∷◌, ◌++◌, length, Some, None, Option, sym, refl, ap, ◌∙◌, subst, ⊎_elim, append_assoc, arith}
+use Rattle.std.proofs.lemmas.List.{length-append}
 use Rattle.std.proofs.lemmas.Bool.{both_ways, and_parts, and_from, cases_Bool, cond-true, cond-false}
 use Rattle.layout.specs.Tokens.{Token}
-use Rattle.grammar.specs.Meaning.{Word, byte, end, Answer, refused, gives, granted, words_of, taken, accepted}
+use Rattle.grammar.specs.Meaning.{Word, end, Answer, refused, gives, granted, words_of, taken, accepted}
 use Rattle.rules.specs.declared.word.Kind.{Kind}
 use Rattle.rules.specs.declared.word.Inside.{Inside}
 use Rattle.rules.specs.declared.word.Begin.{Begin}
 use Rattle.rules.specs.declared.word.Begin.TheVariants.{Blank, Sole, Starts, Never as NeverBegins}
 use Rattle.rules.specs.declared.word.Turn.{Turn}
 use Rattle.rules.specs.declared.word.Turn.TheVariants.{Stays, Closes, Never as NeverTurns}
-use Rattle.rules.specs.Rules.{Rules, Place, loose, admits, behind, behind_all, stand_for}
+use Rattle.rules.specs.Rules.{Rules, Place, loose, admits, behind, stand_for}
 use Rattle.rules.specs.Machine.{State, Step, dead, on, begun, between, turned, ending, stepped, step, next, run, judged, reply, means, pending, finished, fresh, first_place}
-use Rattle.rules.specs.Language.{WrittenBy, nothing, blank_byte, word_then, spelled}
+use Rattle.rules.specs.Language.{WrittenBy, nothing, blank_byte, word_then}
 use Rattle.rules.specs.Lawful.{Lawful, Begun}
 use Rattle.reading.specs.Judging.{WordsInPlace}
 use Rattle.reading.specs.Places.{Placed, places, place_of, placed_at, ended_at, words_at}
@@ -20,7 +20,7 @@ use Rattle.reading.specs.Accepts.{step_words, placed_from}
 use Rattle.reading.proofs.Rest.{Sane}
 use Rattle.reading.proofs.Complete.{complete}
 use Rattle.reading.proofs.Fit.{Fit, fit_next}
-use Rattle.reading.proofs.Steps.{step_word, Went, went}
+use Rattle.reading.proofs.Steps.{step_word, went}
 
 -- the words that bytes end on the way
 abbrev pub so_far : Rules → State → ℕ → List ℕ → List Placed

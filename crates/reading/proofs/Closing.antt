@@ -7,7 +7,6 @@ use Rattle.rules.specs.Rules.{Rules, Place, behind, loose}
 use Rattle.rules.specs.Language.{WrittenBy, blank_byte, word_then, nothing, Delimited, Follows, FollowsKind, is_blank}
 use Rattle.rules.specs.Lawful.{Lawful, AllSpelled}
 use Rattle.reading.specs.Accepts.{at, accepts}
-use Rattle.reading.proofs.Rest.{Live}
 use Rattle.reading.proofs.Complete.{complete}
 use Rattle.reading.proofs.Fit.{FitAt, reached_behind}
 

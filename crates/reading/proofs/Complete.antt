@@ -1,5 +1,5 @@
 -- Every document of the language is accepted, and its words, in their places, are those that the machine ends.
-use Rattle.std.proofs.Common.{◌≡◌, ℕ, suc, ◌+◌, ◌-◌, Bool, true, false, cond, ◌&&◌, List, [], ◌∷◌, ◌++◌, length, Some, None, Option, sym, refl, ap, ◌∙◌, subst, append_assoc, arith}
+use Rattle.std.proofs.Common.{◌≡◌, ℕ, suc, ◌+◌, ◌-◌, Bool, true, false, ◌&&◌, List, [], ◌∷◌, ◌++◌, length, Some, None, Option, sym, refl, ap, ◌∙◌, subst, append_assoc, arith}
 use Rattle.std.proofs.lemmas.List.{append-nil, length-append}
 use Rattle.std.proofs.lemmas.Bool.{both_ways, and_parts, and_from, cond-true, cond-false}
 use Rattle.grammar.specs.Meaning.{Word}
@@ -9,12 +9,12 @@ use Rattle.rules.specs.declared.word.Begin.TheVariants.{Blank, Sole, Starts, Nev
 use Rattle.rules.specs.declared.word.Turn.{Turn}
 use Rattle.rules.specs.declared.word.Turn.TheVariants.{Stays, Closes, Never as NeverTurns}
 use Rattle.rules.specs.Rules.{Rules, Place, admits, behind, loose}
-use Rattle.rules.specs.Machine.{State, Step, dead, on, begun, between, turned, ending, step, next, pending}
-use Rattle.rules.specs.Language.{WrittenBy, Written, blank_byte, word_then, nothing, Follows, FollowsKind, Delimited, is_blank, blank_of, none_left, spelled_begin, spelled_turn, spelled_on, spelled, parses}
+use Rattle.rules.specs.Machine.{State, Step, dead, begun, between, turned, ending, step, next, pending}
+use Rattle.rules.specs.Language.{WrittenBy, blank_byte, word_then, nothing, Follows, FollowsKind, Delimited, is_blank, none_left, spelled_begin, spelled_turn, spelled_on, spelled, parses}
 use Rattle.rules.specs.Lawful.{Lawful, Begun, first_byte, one_more}
 use Rattle.reading.specs.Places.{Placed, places, place_of, placed_at}
 use Rattle.reading.specs.Accepts.{at, alive, step_words, accepts, words_from, placed_from}
-use Rattle.reading.proofs.Rest.{Live, Sane, Going, Rest, accepts_on, placed_on, accepts_ending, placed_ending, same_head, same_tail, not_empty}
+use Rattle.reading.proofs.Rest.{Live, Sane, Rest, accepts_on, placed_on, accepts_ending, placed_ending, same_head, same_tail, not_empty}
 
 -- accepted, with these words in their places
 abbrev Taken : Rules → Place → Option Inside → Word → (ℕ → List Placed) → List ℕ → Type 0

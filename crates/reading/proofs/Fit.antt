@@ -1,5 +1,5 @@
 -- What every state keeps that the machine reaches from the beginning of a document.
-use Rattle.std.proofs.Common.{◌≡◌, ℕ, Bool, true, false, cond, ◌&&◌, List, [], ◌∷◌, ◌++◌, Some, None, Option, sym, refl, ap, ◌∙◌, subst}
+use Rattle.std.proofs.Common.{◌≡◌, ℕ, Bool, true, false, cond, ◌&&◌, [], ◌∷◌, ◌++◌, Some, None, Option, refl}
 use Rattle.grammar.specs.Meaning.{Word}
 use Rattle.rules.specs.declared.word.Inside.{Inside}
 use Rattle.rules.specs.declared.word.Begin.{Begin}
@@ -7,10 +7,10 @@ use Rattle.rules.specs.declared.word.Begin.TheVariants.{Blank, Sole, Starts, Nev
 use Rattle.rules.specs.declared.word.Turn.{Turn}
 use Rattle.rules.specs.declared.word.Turn.TheVariants.{Stays, Closes, Never as NeverTurns}
 use Rattle.rules.specs.Rules.{Rules, Place, admits, behind, behind_all}
-use Rattle.rules.specs.Machine.{State, Step, dead, on, begun, between, turned, ending, stepped, step, next, first_place, fresh}
-use Rattle.rules.specs.Lawful.{Lawful, Begun, first_byte, one_more, Reached, at_first, one_on}
+use Rattle.rules.specs.Machine.{State, Step, dead, on, begun, between, turned, ending, stepped, step, next, fresh}
+use Rattle.rules.specs.Lawful.{first_byte, one_more, Reached, at_first, one_on}
 pub use Rattle.reading.specs.Fit.{FitAt, Fit}
-use Rattle.reading.specs.Fit.{Live, Sane}
+use Rattle.reading.specs.Fit.{Live}
 
 pub fit_fresh : (r : Rules) → Fit r (fresh r)
 fit_fresh r = (tt, at_first)

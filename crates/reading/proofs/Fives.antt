@@ -1,9 +1,9 @@
 -- Refusal 5 comes exactly at a 65th open bracket.
-use Rattle.std.proofs.Common.{◌≡◌, ℕ, zero, suc, ◌+◌, ◌-◌, ◌<◌, ◌≤◌, Bool, true, false, cond, ◌&&◌, eqb, leb, ◌⊎◌, List, [], ◌∷◌, ◌++◌, length, Some, None, Option, sym, refl, ap, ◌∙◌, subst, inl, inr, ⊎_elim, arith}
-use Rattle.std.proofs.lemmas.List.{append-nil, length-append}
-use Rattle.std.proofs.lemmas.Bool.{both_ways, and_parts, and_from, and_left, and_right, and_cases, cases_Bool, cond-true, cond-false}
+use Rattle.std.proofs.Common.{◌≡◌, ℕ, suc, ◌+◌, ◌<◌, ◌≤◌, Bool, true, false, cond, ◌&&◌, eqb, leb, ◌⊎◌, List, [], ◌∷◌, ◌++◌, length, Some, None, Option, sym, refl, ap, ◌∙◌, subst, inl, inr, ⊎_elim, arith}
+use Rattle.std.proofs.lemmas.List.{append-nil}
+use Rattle.std.proofs.lemmas.Bool.{both_ways, and_parts, and_from, and_left, and_right, and_cases, cond-true, cond-false}
 use Rattle.layout.specs.Tokens.{Token}
-use Rattle.grammar.specs.Meaning.{Word, byte, Answer, refused, gives, granted, taken, ended}
+use Rattle.grammar.specs.Meaning.{Word, Answer, refused, gives, granted, taken, ended}
 use Rattle.grammar.specs.Laws.{most_open}
 use Rattle.rules.specs.declared.word.Inside.{Inside}
 use Rattle.rules.specs.declared.word.Begin.{Begin}
@@ -11,24 +11,22 @@ use Rattle.rules.specs.declared.word.Begin.TheVariants.{Blank, Sole, Starts, Nev
 use Rattle.rules.specs.declared.word.Turn.{Turn}
 use Rattle.rules.specs.declared.word.Turn.TheVariants.{Stays, Closes, Never as NeverTurns}
 use Rattle.rules.specs.declared.place.Bracket.{Bracket}
-use Rattle.rules.specs.declared.place.Expects.{Expects}
 use Rattle.rules.specs.declared.place.Move.{Move}
-use Rattle.rules.specs.declared.place.Move.TheVariants.{Within}
-use Rattle.rules.specs.Rules.{Rules, Place, loose, innermost, moves_at, admits, placed, moved, behind, behind_all, stand_for}
+use Rattle.rules.specs.Rules.{Rules, Place, innermost, moves_at, admits, placed, moved, behind, behind_all, stand_for}
 use Rattle.rules.specs.Machine.{State, Step, dead, on, begun, between, turned, ending, stepped, step, next, run, judged, means, fresh, first_place, grammar_of, short, all_short, low, all_low}
-use Rattle.rules.specs.Language.{DocumentBy, WrittenBy, blank_byte, word_then, Follows, spelled, spelled_begin, spelled_on, parses}
+use Rattle.rules.specs.Language.{WrittenBy, blank_byte, word_then, Follows, spelled, spelled_begin, spelled_on, parses}
 use Rattle.rules.specs.Lawful.{Lawful, Begun, first_byte, one_more}
-use Rattle.reading.specs.Places.{Placed, places, place_of, placed_at}
-use Rattle.reading.specs.Accepts.{at, alive, step_words, placed_from}
+use Rattle.reading.specs.Places.{Placed, places, placed_at}
+use Rattle.reading.specs.Accepts.{at, step_words, placed_from}
 use Rattle.reading.specs.Judging.{OpensTooMany, FiveIfDeep}
 use Rattle.reading.proofs.Rest.{Live, Sane, Rest, same_head, not_empty}
 use Rattle.reading.proofs.Complete.{complete, rest_places, words_in, words_append, words_placed, strict_place, loose_follows}
-use Rattle.reading.proofs.Fit.{Fit, fit_fresh}
-use Rattle.reading.proofs.Steps.{step_word, Went, went}
+use Rattle.reading.proofs.Fit.{fit_fresh}
+use Rattle.reading.proofs.Steps.{Went, went}
 use Rattle.reading.proofs.Tokens.{behind_append}
-use Rattle.reading.proofs.Shows.{GoodWords, Gave, gave}
-use Rattle.reading.proofs.Bounds.{so_far, EndBy, BeginAt, begin_later, places_begin}
-use Rattle.reading.proofs.Fours.{GoesOn, goes_on}
+use Rattle.reading.proofs.Shows.{gave}
+use Rattle.reading.proofs.Bounds.{so_far, EndBy, BeginAt, places_begin}
+use Rattle.reading.proofs.Fours.{goes_on}
 
 -- the first byte of a word under way starts it, so the word opens and closes no bracket
 abbrev StartsFirst : Rules → Word → Type 0

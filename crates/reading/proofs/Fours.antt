@@ -1,23 +1,23 @@
 -- Refusal 4 comes exactly at a word's 256th byte.
-use Rattle.std.proofs.Common.{◌≡◌, ℕ, zero, suc, ◌+◌, ◌-◌, ◌<◌, ◌≤◌, Bool, true, false, cond, ◌&&◌, eqb, leb, ◌⊎◌, List, [], ◌∷◌, ◌++◌, length, Some, None, Option, sym, refl, ap, ◌∙◌, subst, inl, inr, ⊎_elim, arith}
+use Rattle.std.proofs.Common.{◌≡◌, ℕ, suc, ◌+◌, ◌-◌, ◌<◌, ◌≤◌, Bool, true, false, cond, ◌&&◌, eqb, ◌⊎◌, List, [], ◌∷◌, ◌++◌, length, Some, None, Option, sym, refl, ap, ◌∙◌, subst, inl, inr, ⊎_elim, arith}
 use Rattle.std.proofs.lemmas.List.{append-nil, length-append}
-use Rattle.std.proofs.lemmas.Bool.{both_ways, and_parts, and_from, and_left, and_right, cases_Bool, cond-true, cond-false, leb-true, leb-false, le-leb, lt-leb}
+use Rattle.std.proofs.lemmas.Bool.{both_ways, and_parts, and_from, and_left, cases_Bool, cond-true, cond-false, leb-true, leb-false, lt-leb}
 use Rattle.layout.specs.Tokens.{Token}
-use Rattle.grammar.specs.Meaning.{Word, byte, Answer, refused, gives, taken}
+use Rattle.grammar.specs.Meaning.{Word, Answer, refused, gives, taken}
 use Rattle.grammar.specs.Laws.{most_bytes}
 use Rattle.rules.specs.declared.word.Inside.{Inside}
 use Rattle.rules.specs.declared.word.Begin.{Begin}
 use Rattle.rules.specs.declared.word.Begin.TheVariants.{Blank, Sole, Starts, Never as NeverBegins}
 use Rattle.rules.specs.declared.word.Turn.{Turn}
 use Rattle.rules.specs.declared.word.Turn.TheVariants.{Stays, Closes, Never as NeverTurns}
-use Rattle.rules.specs.Rules.{Rules, Place, loose, admits, behind, stand_for}
-use Rattle.rules.specs.Machine.{State, Step, dead, on, begun, between, turned, ending, stepped, step, run, judged, fresh, first_place, grammar_of, short, all_short, all_low}
-use Rattle.rules.specs.Language.{DocumentBy, WrittenBy, Follows, spelled_on, spelled_turn, none_left}
-use Rattle.rules.specs.Lawful.{Lawful, Begun}
+use Rattle.rules.specs.Rules.{Rules, Place, admits, behind, stand_for}
+use Rattle.rules.specs.Machine.{State, Step, dead, on, begun, between, turned, ending, stepped, run, judged, fresh, first_place, grammar_of, short, all_short, all_low}
+use Rattle.rules.specs.Language.{DocumentBy, Follows, spelled_on, spelled_turn, none_left}
+use Rattle.rules.specs.Lawful.{Lawful}
 use Rattle.reading.specs.Places.{Placed, places}
-use Rattle.reading.specs.Accepts.{at, step_words, accepts, words_from, placed_from}
+use Rattle.reading.specs.Accepts.{step_words, accepts, words_from, placed_from}
 use Rattle.reading.specs.Judging.{ByteOfWord, FourIfLong}
-use Rattle.reading.proofs.Rest.{Live, Sane, Going, Rest, same_head}
+use Rattle.reading.proofs.Rest.{Live, Sane, Rest, same_head}
 use Rattle.reading.proofs.Sound.{sound}
 use Rattle.reading.proofs.Complete.{complete, rest_places, loose_follows}
 use Rattle.reading.proofs.Fit.{Fit, fit_fresh}

@@ -1,8 +1,8 @@
 -- Refusal 3 comes exactly where no document of the language goes on.
-use Rattle.std.proofs.Common.{◌≡◌, ℕ, Bool, true, false, cond, ◌&&◌, eqb, List, [], ◌∷◌, ◌++◌, None, sym, refl, ap, ◌∙◌, subst, ⊎_elim, append_assoc}
+use Rattle.std.proofs.Common.{◌≡◌, ℕ, Bool, true, false, cond, eqb, List, [], ◌∷◌, ◌++◌, None, sym, refl, ap, ◌∙◌, subst, ⊎_elim, append_assoc}
 use Rattle.std.proofs.lemmas.Bool.{both_ways, and_parts, and_from, cases_Bool}
 use Rattle.layout.specs.Tokens.{Token}
-use Rattle.grammar.specs.Meaning.{Word, byte, end, Answer, refused, gives, granted, taken}
+use Rattle.grammar.specs.Meaning.{Word, Answer, refused, gives, taken}
 use Rattle.rules.specs.Rules.{Rules, stand_for}
 use Rattle.rules.specs.Machine.{State, Step, dead, on, step, next, run, judged, fresh, first_place, grammar_of, all_short, all_low}
 use Rattle.rules.specs.Language.{DocumentBy}

@@ -1,21 +1,20 @@
 -- With the limits: the machine accepts exactly the documents whose words keep them.
-use Rattle.std.proofs.Common.{◌≡◌, ℕ, ◌+◌, ◌≤◌, Bool, true, false, cond, ◌&&◌, leb, List, [], ◌∷◌, ◌++◌, length, Some, None, Option, sym, refl, ap, ◌∙◌, subst, append_assoc, arith}
-use Rattle.std.proofs.lemmas.List.{append-nil, length-append}
-use Rattle.std.proofs.lemmas.Bool.{both_ways, and_parts, and_from, cond-true, cond-false, leb-true, le-leb}
+use Rattle.std.proofs.Common.{◌≡◌, ℕ, Bool, true, false, cond, ◌&&◌, List, [], ◌∷◌, ◌++◌, length, Some, None, Option, sym, refl, ap, ◌∙◌, subst, append_assoc, arith}
+use Rattle.std.proofs.lemmas.List.{length-append}
+use Rattle.std.proofs.lemmas.Bool.{both_ways, and_parts, and_from, cond-true, leb-true, le-leb}
 use Rattle.layout.specs.Tokens.{Token}
-use Rattle.grammar.specs.Meaning.{Word, byte, end, Answer, refused, gives, granted, words_of, taken, accepted, ended, words}
-use Rattle.grammar.specs.Laws.{most_bytes, most_open}
+use Rattle.grammar.specs.Meaning.{Word, end, Answer, refused, gives, granted, words_of, taken, accepted, ended, words}
+use Rattle.grammar.specs.Laws.{most_bytes}
 use Rattle.rules.specs.declared.word.Inside.{Inside}
 use Rattle.rules.specs.Rules.{Rules, Place, behind, behind_all, stand_for}
 use Rattle.rules.specs.Machine.{State, Step, dead, on, step, next, run, judged, reply, means, fresh, first_place, pending, finished, no_brackets, grammar_of, short, all_short, low, all_low}
-use Rattle.rules.specs.Language.{within_limits}
 use Rattle.rules.specs.Lawful.{Lawful}
 use Rattle.reading.specs.Accepts.{at, alive, step_words, accepts, words_from}
 use Rattle.reading.specs.Judging.{KeptDocument, AcceptsDocuments, SixIfUnfinished}
-use Rattle.reading.proofs.Rest.{Sane, Going}
+use Rattle.reading.proofs.Rest.{Sane}
 use Rattle.reading.proofs.Sound.{sound}
 use Rattle.reading.proofs.Complete.{complete, complete_words}
-use Rattle.reading.proofs.Fit.{Fit, FitAt, fit_fresh, fit_next}
+use Rattle.reading.proofs.Fit.{Fit, fit_fresh, fit_next}
 use Rattle.reading.proofs.Steps.{step_word, Went, went, goes, all_short_append, all_low_append}
 
 -- what is accepted with the limits

@@ -1,8 +1,8 @@
 -- Every free writing of the tokens that stand for words writes these words again.
-use Rattle.std.proofs.Common.{◌≡◌, ℕ, zero, suc, ◌<◌, Bool, true, false, ◌&&◌, ◌⊎◌, List, [], ◌∷◌, ◌++◌, length, replicate, Some, None, Option, sym, refl, ap, ◌∙◌, subst, inl, inr, ⊎_elim, append_assoc, arith}
+use Rattle.std.proofs.Common.{◌≡◌, ℕ, zero, suc, ◌<◌, Bool, true, false, ◌⊎◌, List, [], ◌∷◌, ◌++◌, Some, None, Option, sym, refl, ap, ◌∙◌, subst, inl, inr, ⊎_elim, append_assoc, arith}
 use Rattle.std.proofs.lemmas.List.{append-nil}
 use Rattle.std.proofs.lemmas.Bool.{both_ways, and_parts}
-use Rattle.layout.specs.Tokens.{Token, Text, Break, Opening, Ending}
+use Rattle.layout.specs.Tokens.{Token, Text}
 use Rattle.layout.specs.Layout.{blanks, ended, joined}
 use Rattle.layout.specs.Writings.{Choice, as_blanks, as_line, chosen, shown, shown_all, free_writing}
 use Rattle.grammar.specs.Meaning.{Word}
@@ -11,7 +11,7 @@ use Rattle.rules.specs.declared.place.Move.TheVariants.{Within, Opens, Closes}
 use Rattle.rules.specs.declared.place.Lead.{Lead}
 use Rattle.rules.specs.declared.place.BlockForm.{BlockForm}
 use Rattle.rules.specs.Rules.{Rules, Place, loose, is_some, moves_at, admits, placed, moved, behind, led, opened, closed, word_tokens, stand_for}
-use Rattle.rules.specs.Language.{WrittenBy, blank_byte, word_then, nothing, Delimited, FollowsKind, is_blank, blank_of, spelled, parses}
+use Rattle.rules.specs.Language.{WrittenBy, blank_byte, word_then, nothing, Delimited, FollowsKind, is_blank, blank_of, parses}
 use Rattle.rules.specs.Lawful.{Lawful, Apart, AllSpelled}
 
 -- bytes that stand between words in every grammar: blanks and newlines

@@ -1,9 +1,9 @@
 -- What may come from a state on: the rest of the word under way, and then words that lead to the end of a document.
-use Rattle.std.proofs.Common.{◌≡◌, ℕ, suc, Bool, true, false, ◌&&◌, List, [], ◌∷◌, ◌++◌, Some, None, Option, sym, refl, ap, subst}
+use Rattle.std.proofs.Common.{◌≡◌, ℕ, suc, Bool, true, false, ◌&&◌, List, [], ◌∷◌, ◌++◌, Some, None, Option, refl, ap}
 use Rattle.std.proofs.lemmas.Bool.{both_ways}
 use Rattle.grammar.specs.Meaning.{Word}
 use Rattle.rules.specs.declared.word.Inside.{Inside}
-use Rattle.rules.specs.Rules.{Rules, Place, admits, behind, behind_all}
+use Rattle.rules.specs.Rules.{Rules, Place, behind}
 use Rattle.rules.specs.Machine.{State, Step, dead, on, next, ending}
 use Rattle.rules.specs.Language.{WrittenBy, Follows, FollowsKind, none_left, spelled_on, parses}
 pub use Rattle.reading.specs.Fit.{Live, Sane}

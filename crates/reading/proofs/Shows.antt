@@ -1,7 +1,7 @@
 -- The machine shows the laws of a grammar.
-use Rattle.std.proofs.Common.{◌≡◌, ℕ, zero, suc, ◌+◌, ◌*◌, ◌<◌, ◌≤◌, Bool, true, false, cond, ◌&&◌, eqb, leb, ◌⊎◌, List, [], ◌∷◌, ◌++◌, length, Some, None, Option, sym, refl, ap, ◌∙◌, subst, inl, inr, ⊎_elim, append_assoc, arith}
-use Rattle.std.proofs.lemmas.List.{append-nil, length-append}
-use Rattle.std.proofs.lemmas.Bool.{both_ways, and_parts, and_from, cases_Bool, cond-true, cond-false, eqb-true, leb-true, le-leb}
+use Rattle.std.proofs.Common.{◌≡◌, ℕ, ◌≤◌, Bool, true, false, cond, ◌&&◌, eqb, leb, List, [], ◌∷◌, ◌++◌, length, Some, None, Option, sym, refl, ap, ◌∙◌, subst, ⊎_elim, arith}
+use Rattle.std.proofs.lemmas.List.{length-append}
+use Rattle.std.proofs.lemmas.Bool.{both_ways, and_parts, and_from, cases_Bool, cond-false, eqb-true, leb-true}
 use Rattle.lines.specs.Lines.{newlines}
 use Rattle.lines.proofs.Joins.{newlines_append}
 use Rattle.layout.specs.Tokens.{Token, nest}
@@ -18,13 +18,12 @@ use Rattle.rules.specs.Machine.{State, Step, dead, on, begun, between, turned, e
 use Rattle.rules.specs.Language.{WrittenBy, is_blank, parses}
 use Rattle.rules.specs.Lawful.{Lawful, Begun, first_byte, one_more}
 use Rattle.rules.proofs.Writing.{all_spelled}
-use Rattle.reading.specs.Accepts.{alive, step_words}
-use Rattle.reading.specs.Judging.{KeptDocument}
+use Rattle.reading.specs.Accepts.{step_words}
 use Rattle.reading.proofs.Rest.{Live, Sane}
-use Rattle.reading.proofs.Fit.{Fit, FitAt, fit_fresh, fit_next}
+use Rattle.reading.proofs.Fit.{Fit, fit_fresh, fit_next}
 use Rattle.reading.proofs.Steps.{Went, went, all_short_append, all_low_append}
 use Rattle.reading.proofs.Judges.{fit_run}
-use Rattle.reading.proofs.Limits.{next_short, pending_short, pending_low, granted_end, accepts_documents}
+use Rattle.reading.proofs.Limits.{next_short, pending_short, pending_low, accepts_documents}
 use Rattle.reading.proofs.Rereads.{written_free}
 use Rattle.reading.proofs.Tokens.{stand_append, behind_append, nest_words, PlainWord, PlainWords, plain_append, good_words, few_words}
 

@@ -9,9 +9,9 @@ use Rattle.rules.specs.declared.word.Begin.TheVariants.{Blank, Sole, Starts, Nev
 use Rattle.rules.specs.declared.word.Turn.{Turn}
 use Rattle.rules.specs.declared.word.Turn.TheVariants.{Stays, Closes, Never as NeverTurns}
 use Rattle.rules.specs.Rules.{Rules, Place, admits, behind, loose}
-use Rattle.rules.specs.Machine.{Step, dead, on, begun, between, turned, ending}
-use Rattle.rules.specs.Language.{WrittenBy, Written, blank_byte, word_then, nothing, FollowsKind, Delimited, is_blank, blank_of, none_left, spelled_begin, spelled_turn, spelled_on, spelled, parses}
-use Rattle.rules.specs.Lawful.{Lawful, Begun, first_byte, one_more}
+use Rattle.rules.specs.Machine.{Step, dead, begun, between, turned, ending}
+use Rattle.rules.specs.Language.{WrittenBy, blank_byte, word_then, nothing, FollowsKind, is_blank, none_left, spelled_begin, spelled_turn, spelled_on, spelled, parses}
+use Rattle.rules.specs.Lawful.{Lawful, first_byte, one_more}
 use Rattle.reading.specs.Accepts.{at, alive, accepts, words_from}
 use Rattle.reading.proofs.Rest.{Live, Sane, Going, Rest, accepts_on, words_on, accepts_ending, words_ending, follows_strict}
 

@@ -1,9 +1,9 @@
 -- A step that is not refused: what it ends and gives, and how it keeps the limits.
-use Rattle.std.proofs.Common.{◌≡◌, ℕ, Bool, true, false, cond, ◌&&◌, List, [], ◌∷◌, ◌++◌, sym, refl, ap, ◌∙◌, subst, append_assoc}
+use Rattle.std.proofs.Common.{◌≡◌, ℕ, Bool, true, false, cond, ◌&&◌, List, [], ◌∷◌, ◌++◌, sym, refl, ap, ◌∙◌}
 use mathlib.Core.Bool.{and_assoc}
-use Rattle.std.proofs.lemmas.Bool.{both_ways, and_parts, and_from, cond-true}
+use Rattle.std.proofs.lemmas.Bool.{both_ways, and_parts, cond-true}
 use Rattle.layout.specs.Tokens.{Token}
-use Rattle.grammar.specs.Meaning.{Word, byte, end, Answer, refused, gives, granted, words_of, tokens_of, taken, accepted}
+use Rattle.grammar.specs.Meaning.{Word, refused, gives, granted, taken}
 use Rattle.rules.specs.Rules.{Rules, Place, behind, behind_all, stand_for}
 use Rattle.rules.specs.Machine.{State, Step, dead, on, step, next, run, judged, means, short, all_short, low, all_low}
 use Rattle.reading.specs.Accepts.{alive, step_words, accepts}

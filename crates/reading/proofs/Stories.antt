@@ -1,23 +1,21 @@
 -- What is handed out of a text.
-use Rattle.std.proofs.Common.{◌≡◌, ℕ, zero, suc, ◌+◌, ◌-◌, ◌≤◌, Bool, true, false, cond, ◌&&◌, List, [], ◌∷◌, ◌++◌, length, take, drop, Some, None, Option, sym, refl, ap, ◌∙◌, subst, append_assoc, arith}
+use Rattle.std.proofs.Common.{◌≡◌, ℕ, suc, ◌+◌, ◌-◌, Bool, true, false, cond, ◌&&◌, List, [], ◌∷◌, ◌++◌, length, take, drop, Some, None, Option, sym, refl, ap, ◌∙◌, subst, append_assoc, arith}
 use Rattle.std.proofs.lemmas.List.{append-nil, length-append, take_at, drop_at}
-use Rattle.std.proofs.lemmas.Bool.{both_ways, and_parts, and_from, cond-true, cond-false}
+use Rattle.std.proofs.lemmas.Bool.{both_ways, and_parts}
 use Rattle.layout.specs.Tokens.{Token}
-use Rattle.grammar.specs.Meaning.{Word, Next, byte, end, Answer, refused, gives, Meaning, after, afters, granted, words_of, taken, accepted, words}
+use Rattle.grammar.specs.Meaning.{Word, Next, byte, end, Answer, refused, gives, Meaning, after, afters, granted, words_of, taken, accepted}
 use Rattle.rules.specs.declared.word.Kind.{Kind}
 use Rattle.rules.specs.declared.word.Inside.{Inside}
 use Rattle.rules.specs.declared.word.Begin.{Begin}
 use Rattle.rules.specs.declared.word.Begin.TheVariants.{Blank, Sole, Starts, Never as NeverBegins}
 use Rattle.rules.specs.declared.word.Turn.{Turn}
 use Rattle.rules.specs.declared.word.Turn.TheVariants.{Stays, Closes, Never as NeverTurns}
-use Rattle.rules.specs.Rules.{Rules, Place, loose, admits, behind, stand_for}
-use Rattle.rules.specs.Machine.{State, Step, dead, on, begun, between, turned, ending, stepped, step, next, judged, reply, means, pending, finished, fresh, grammar_of, all_short, all_low}
-use Rattle.rules.specs.Language.{WrittenBy}
+use Rattle.rules.specs.Rules.{Rules, Place, admits, behind, stand_for}
+use Rattle.rules.specs.Machine.{State, Step, dead, on, begun, between, turned, ending, stepped, step, next, judged, means, pending, finished, fresh, grammar_of}
 use Rattle.rules.specs.Lawful.{Lawful, Begun}
-use Rattle.reading.specs.Places.{Placed, places, place_of, placed_at, ended_at, words_at}
+use Rattle.reading.specs.Places.{Placed, place_of, placed_at, ended_at, words_at}
 use Rattle.reading.specs.Accepts.{step_words}
-use Rattle.reading.specs.Judging.{KeptDocument}
-use Rattle.reading.specs.Story.{Close, whole, broken, Story, before, story_end, story_byte, story, story_of, AllParts, Tells}
+use Rattle.reading.specs.Story.{Close, whole, broken, Story, before, story_end, story_byte, story, AllParts, Tells}
 use Rattle.reading.proofs.Rest.{Sane}
 use Rattle.reading.proofs.Complete.{loose_place, strict_place}
 use Rattle.reading.proofs.Fit.{Fit, fit_fresh, fit_next}

@@ -1,24 +1,18 @@
 -- The tokens that the machine gives stand for the words that it ends, balance, and keep the bounds.
-use Rattle.std.proofs.Common.{◌≡◌, ℕ, zero, suc, pred, ◌+◌, ◌*◌, ◌<◌, ◌≤◌, Bool, true, false, cond, ◌&&◌, eqb, leb, ◌⊎◌, List, [], ◌∷◌, ◌++◌, length, Some, None, Option, sym, refl, ap, ◌∙◌, subst, inl, inr, ⊎_elim, append_assoc, arith}
-use Rattle.std.proofs.lemmas.List.{append-nil, length-append}
-use Rattle.std.proofs.lemmas.Bool.{both_ways, and_parts, and_from, cases_Bool, cond-false, eqb-true, leb-true, le-leb}
+use Rattle.std.proofs.Common.{◌≡◌, ℕ, zero, suc, pred, ◌+◌, ◌*◌, ◌<◌, ◌≤◌, true, List, [], ◌∷◌, ◌++◌, length, Some, None, Option, sym, refl, ap, ◌∙◌, subst, ⊎_elim, append_assoc, arith}
+use Rattle.std.proofs.lemmas.List.{length-append}
+use Rattle.std.proofs.lemmas.Bool.{and_parts, leb-true}
 use Rattle.lines.specs.Lines.{newlines}
 use Rattle.lines.proofs.Joins.{newlines_append}
 use Rattle.layout.specs.Tokens.{Token, Text, Break, Opening, Ending, nest}
 use Rattle.grammar.specs.Meaning.{Word}
-use Rattle.grammar.specs.Laws.{most_bytes, most_open, Near, Fine, AllFine, Nested}
-use Rattle.rules.specs.declared.word.Inside.{Inside}
-use Rattle.rules.specs.declared.word.Begin.{Begin}
-use Rattle.rules.specs.declared.word.Begin.TheVariants.{Blank, Sole, Starts, Never as NeverBegins}
-use Rattle.rules.specs.declared.word.Turn.{Turn}
-use Rattle.rules.specs.declared.word.Turn.TheVariants.{Stays, Closes as ClosesWord, Never as NeverTurns}
+use Rattle.grammar.specs.Laws.{Fine, AllFine, Nested}
 use Rattle.rules.specs.declared.place.Bracket.{Bracket}
-use Rattle.rules.specs.declared.place.Expects.{Expects}
 use Rattle.rules.specs.declared.place.Move.{Move}
 use Rattle.rules.specs.declared.place.Move.TheVariants.{Within, Opens, Closes}
 use Rattle.rules.specs.declared.place.Lead.{Lead}
 use Rattle.rules.specs.declared.place.BlockForm.{BlockForm}
-use Rattle.rules.specs.Rules.{Rules, Place, innermost, without_innermost, moves_at, placed, moved, behind, behind_all, led, opened, closed, word_tokens, stand_for}
+use Rattle.rules.specs.Rules.{Rules, Place, innermost, without_innermost, moves_at, placed, behind, behind_all, led, opened, closed, word_tokens, stand_for}
 use Rattle.rules.specs.Machine.{short, all_short, low, all_low}
 use Rattle.rules.specs.Lawful.{Lawful, Ranged}
 

@@ -1,5 +1,5 @@
 -- What the machine accepts, limits aside, from any state on, and the words that it then ends.
-use Rattle.std.specs.Prelude.{ℕ, suc, Bool, true, false, ◌&&◌, List, [], ◌∷◌, ◌++◌, Some, None, Option}
+use Rattle.std.specs.Prelude.{ℕ, suc, Bool, true, false, ◌&&◌, List, [], ◌∷◌, ◌++◌, Option}
 use Rattle.grammar.specs.Meaning.{Word}
 use Rattle.rules.specs.declared.word.Inside.{Inside}
 use Rattle.rules.specs.Rules.{Rules, Place}

@@ -1,5 +1,5 @@
 -- What it is to read a language: which bytes and ends are refused, by which number, and what is accepted.
-use Rattle.std.specs.Prelude.{◌≡◌, ℕ, suc, ◌+◌, ◌≤◌, Bool, true, false, ◌⊎◌, List, [], ◌∷◌, ◌++◌, length}
+use Rattle.std.specs.Prelude.{◌≡◌, ℕ, suc, ◌+◌, ◌≤◌, true, false, ◌⊎◌, List, [], ◌∷◌, ◌++◌, length}
 use Rattle.grammar.specs.Meaning.{Word, byte, end, refused, taken, accepted, words}
 use Rattle.grammar.specs.Laws.{most_bytes}
 use Rattle.rules.specs.Rules.{Rules, Place, behind}

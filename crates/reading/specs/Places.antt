@@ -1,5 +1,5 @@
 -- The places of words: of a text without a machine, and of the words that bytes end.
-use Rattle.std.specs.Prelude.{ℕ, suc, ◌+◌, ◌-◌, Bool, true, false, cond, List, [], ◌∷◌, ◌++◌, length}
+use Rattle.std.specs.Prelude.{ℕ, suc, ◌+◌, ◌-◌, Bool, cond, List, [], ◌∷◌, ◌++◌, length}
 use Rattle.grammar.specs.Meaning.{Word, byte, end, Meaning, after, words_of}
 use Rattle.rules.specs.declared.word.Kind.{Kind}
 use Rattle.rules.specs.Rules.{loose}

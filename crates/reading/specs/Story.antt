@@ -1,11 +1,11 @@
 -- The reading of a whole text: its words in their places, and how it ends.
-use Rattle.std.specs.Prelude.{◌≡◌, ℕ, suc, ◌+◌, Bool, true, false, List, [], ◌∷◌, ◌++◌, length, take, drop}
+use Rattle.std.specs.Prelude.{◌≡◌, ℕ, suc, true, List, [], ◌∷◌, ◌++◌, length, take, drop}
 use Rattle.grammar.specs.Meaning.{Word, byte, end, Answer, refused, gives, Meaning, after, taken, accepted, words}
 use Rattle.rules.specs.declared.word.Kind.{Kind}
 use Rattle.rules.specs.Rules.{Rules}
 use Rattle.rules.specs.Machine.{grammar_of}
 use Rattle.rules.specs.Language.{WrittenBy}
-use Rattle.reading.specs.Places.{Placed, places, placed_at, ended_at, words_at}
+use Rattle.reading.specs.Places.{Placed, places, placed_at, ended_at}
 
 -- the text is a document; or it is refused by this number at this place
 pub data Close : Type 0 where

@@ -1,5 +1,5 @@
 -- The language of a set of rules, without a machine: bytes are words with blank bytes between, and the words may stand in that order.
-use Rattle.std.specs.Prelude.{◌≡◌, ℕ, suc, pred, Bool, true, false, cond, ◌&&◌, List, [], ◌∷◌, ◌++◌, Some, None, Option, nat_le}
+use Rattle.std.specs.Prelude.{◌≡◌, ℕ, suc, pred, Bool, true, false, cond, ◌&&◌, List, [], ◌∷◌, ◌++◌, nat_le}
 use Rattle.grammar.specs.Meaning.{Word}
 use Rattle.grammar.specs.Laws.{most_open}
 use Rattle.rules.specs.declared.word.Kind.{Kind}

@@ -1,12 +1,10 @@
 -- What a set of rules must show, so that the machine reads its language: facts about single bytes and words.
-use Rattle.std.specs.Prelude.{◌≡◌, ℕ, ◌<◌, ◌≤◌, Bool, true, false, not, ◌||◌, ◌⊎◌, List, [], ◌∷◌, ◌++◌, length, Some, None, Option, ◌≢◌}
+use Rattle.std.specs.Prelude.{◌≡◌, ℕ, ◌<◌, ◌≤◌, Bool, true, false, not, ◌||◌, ◌⊎◌, List, [], ◌∷◌, ◌++◌, Some, None, Option, ◌≢◌}
 use Rattle.grammar.specs.Meaning.{Word}
 use Rattle.grammar.specs.Laws.{Near}
 use Rattle.rules.specs.declared.word.Kind.{Kind}
 use Rattle.rules.specs.declared.word.Inside.{Inside}
-use Rattle.rules.specs.declared.word.Begin.{Begin}
 use Rattle.rules.specs.declared.word.Begin.TheVariants.{Blank, Sole, Starts}
-use Rattle.rules.specs.declared.word.Turn.{Turn}
 use Rattle.rules.specs.declared.word.Turn.TheVariants.{Stays, Closes as ClosesWord, Never as NeverTurns}
 use Rattle.rules.specs.declared.place.Bracket.{Bracket}
 use Rattle.rules.specs.declared.place.Expects.{Expects}

@@ -1,5 +1,5 @@
 -- The machine that reads by the rules of a grammar: what it keeps between bytes, and how it answers each byte and the end.
-use Rattle.std.specs.Prelude.{ℕ, Bool, true, false, cond, ◌&&◌, List, [], ◌∷◌, ◌++◌, length, Some, None, Option, nat_le}
+use Rattle.std.specs.Prelude.{ℕ, Bool, true, cond, ◌&&◌, List, [], ◌∷◌, ◌++◌, length, Some, None, Option, nat_le}
 use Rattle.grammar.specs.Meaning.{Word, Next, byte, end, Answer, refused, gives, Meaning}
 use Rattle.grammar.specs.Laws.{most_bytes, most_open}
 use Rattle.rules.specs.declared.word.Inside.{Inside}

@@ -1,14 +1,14 @@
 -- A token comes: what the queues hold then.
-use Rattle.std.proofs.Common.{◌≡◌, ℕ, zero, suc, pred, ◌+◌, ◌-◌, ◌%◌, ◌<◌, ◌≤◌, Bool, true, false, cond, ltb, leb, List, [], ◌∷◌, ◌++◌, length, get_or, take, drop, set, ℤ, sym, refl, ap, ◌∙◌, subst, append_assoc, arith}
-use Rattle.std.proofs.lemmas.List.{append-nil, length-append, length-take, take_all}
+use Rattle.std.proofs.Common.{◌≡◌, ℕ, suc, ◌+◌, ◌<◌, ◌≤◌, Bool, true, false, cond, ltb, leb, List, [], ◌∷◌, ◌++◌, length, ℤ, sym, refl, ap, ◌∙◌, append_assoc, arith}
+use Rattle.std.proofs.lemmas.List.{append-nil, take_all}
 use Rattle.std.proofs.lemmas.Bool.{cond-true, lt-ltb, le-leb}
 use Rattle.queue.specs.Held.{held}
-use Rattle.layout.specs.Tokens.{Token, Text, Break, Opening, Ending, width, widths, nest}
-use Rattle.stream.specs.declared.record.Extent.TheVariants.{Known, Waiting}
+use Rattle.layout.specs.Tokens.{Token, Break, width, widths, nest}
+use Rattle.stream.specs.declared.record.Extent.TheVariants.{Waiting}
 use Rattle.stream.specs.declared.record.Slot.{Slot}
 use Rattle.stream.specs.declared.record.Place.{Place}
 use Rattle.stream.specs.Recorded.{waiting, extent, slotted, recorded, text_of, texts, deeper, place, waits, wrapped}
-use Rattle.stream.specs.Settling.{keeps, mixed, spot}
+use Rattle.stream.specs.Settling.{keeps, mixed}
 use Rattle.stream.proofs.Nests.{quiet, nest_append}
 use Rattle.stream.proofs.Settles.{own, recorded_quiet, waits_quiet, waits_break, mixed_break, mixed_all}
 use Rattle.scan.specs.declared.scan.Scan.{Scan}

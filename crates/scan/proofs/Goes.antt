@@ -1,18 +1,18 @@
 -- The first token goes: what the queues hold then.
-use Rattle.std.proofs.Common.{◌≡◌, ℕ, zero, suc, ◌+◌, ◌-◌, ◌%◌, ◌<◌, ◌≤◌, Bool, true, false, cond, ◌⊎◌, List, [], ◌∷◌, ◌++◌, length, take, drop, sym, refl, ap, ◌∙◌, subst, inl, inr, ⊎_elim, arith}
+use Rattle.std.proofs.Common.{◌≡◌, ℕ, suc, ◌+◌, ◌%◌, List, ◌∷◌, ◌++◌, length, drop, sym, refl, ap, ◌∙◌, ⊎_elim, arith}
 use Rattle.std.proofs.lemmas.List.{drop_at}
 use Rattle.std.proofs.lemmas.Bool.{cases_Bool, cond-true, cond-false}
 use Rattle.queue.specs.Held.{held}
-use Rattle.layout.specs.Tokens.{Token, Text, Break, Opening, Ending, width, widths, nest}
+use Rattle.layout.specs.Tokens.{Token, Text, Break, Opening, Ending, width}
 use Rattle.stream.specs.declared.record.Extent.{Extent}
-use Rattle.stream.specs.declared.record.Extent.TheVariants.{Known, Waiting}
+use Rattle.stream.specs.declared.record.Extent.TheVariants.{Waiting}
 use Rattle.stream.specs.declared.record.Slot.{Slot}
 use Rattle.stream.specs.declared.record.Place.{Place}
-use Rattle.stream.specs.Recorded.{shape, waiting, extent, slotted, recorded, text_of, texts, deeper, place, waits, wrapped}
+use Rattle.stream.specs.Recorded.{shape, waiting, extent, slotted, recorded, text_of, texts, deeper, waits}
 use Rattle.stream.proofs.Settles.{nest_deeper}
 use Rattle.stream.proofs.Places.{waits_on, waits_off}
 use Rattle.scan.specs.declared.scan.Scan.{Scan}
-use Rattle.scan.specs.Holding.{Counts, Holds}
+use Rattle.scan.specs.Holding.{Holds}
 use Rattle.scan.specs.First.{places_of, bytes_of, columns_of}
 
 bytes_shape : (t : Token) (ts : List Token) → drop (bytes_of (shape t)) (text_of t ++ texts ts) ≡ texts ts

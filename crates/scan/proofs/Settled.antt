@@ -1,18 +1,17 @@
 -- One step of settling, over plain values.
-use Rattle.std.proofs.Common.{◌≡◌, ℕ, zero, suc, pred, ◌+◌, ◌-◌, ◌%◌, ◌<◌, ◌≤◌, Bool, true, false, cond, ◌&&◌, ltb, ◌⊎◌, List, [], ◌∷◌, ◌++◌, length, get_or, take, drop, set, Some, None, Option, sym, refl, ap, ◌∙◌, subst, inl, inr, ⊎_elim, arith, MatchOption}
-use Rattle.std.proofs.lemmas.List.{length-take, length_push, take_more, get_or_push, same_from_push, take-append-drop}
-use Rattle.std.proofs.lemmas.Bool.{cases_lt, cases_Bool, and_left}
+use Rattle.std.proofs.Common.{◌≡◌, ℕ, suc, ◌+◌, ◌-◌, ◌%◌, ◌<◌, ◌≤◌, true, false, cond, ◌&&◌, ltb, List, [], ◌∷◌, ◌++◌, length, get_or, take, drop, set, Some, None, Option, sym, ap, ◌∙◌, ⊎_elim, arith, MatchOption}
+use Rattle.std.proofs.lemmas.List.{length-take, length_push, take_more, same_from_push, take-append-drop}
+use Rattle.std.proofs.lemmas.Bool.{cases_lt}
 use Rattle.queue.specs.Held.{held}
 use Rattle.layout.specs.Tokens.{Token, width, widths, opens, nest}
-use Rattle.stream.specs.declared.record.Extent.TheVariants.{Known}
 use Rattle.stream.specs.declared.record.Slot.{Slot}
 use Rattle.stream.specs.declared.record.Place.{Place}
 use Rattle.stream.specs.Recorded.{waiting, place, waits, wrapped, deeper}
 use Rattle.stream.specs.Settling.{keeps, mixed, spot}
-use Rattle.stream.proofs.Places.{Stands, place_at, sized, mixed_step, deep, shallow}
+use Rattle.stream.proofs.Places.{place_at, sized, mixed_step, deep, shallow}
 use Rattle.scan.specs.declared.scan.Scan.{Scan}
-use Rattle.scan.specs.Holding.{Counts, Holds, Settling}
-use Rattle.scan.proofs.Comes.{widths_append, length_mixed}
+use Rattle.scan.specs.Holding.{Settling}
+use Rattle.scan.proofs.Comes.{widths_append}
 
 pub widths_split : (i : ℕ) (h : List Token) → widths h ≡ widths (take i h) + widths (drop i h)
 widths_split i h = ap widths (sym (take-append-drop i h)) ∙ widths_append (take i h) (drop i h)

@@ -1,11 +1,7 @@
 -- Open blocks, and the reach of a token, as tokens come.
-use Rattle.std.proofs.Common.{◌≡◌, ℕ, zero, suc, pred, ◌+◌, ◌<◌, ◌≤◌, Bool, true, false, cond, not, ◌&&◌, ◌||◌, eqb, ltb, ◌⊎◌, List, [], ◌∷◌, ◌++◌, length, sym, refl, ap, ◌∙◌, subst, inl, inr, ⊎_elim, arith}
-use Rattle.std.proofs.lemmas.Bool.{cases_Bool, both_ways, eq-eqb}
-use Rattle.std.proofs.lemmas.Bool.Decides.{nat_tests}
-use Rattle.layout.specs.Tokens.{Token, Text, Break, Opening, Ending, width, widths, opens, reached, before_reach, size, free, nest}
-use Rattle.layout.proofs.Passes.{reached_more, before_more, before_unreached}
-use Rattle.stream.specs.Recorded.{waiting, extent, deeper}
-use Rattle.stream.specs.Settling.{keeps}
+use Rattle.std.proofs.Common.{◌≡◌, ℕ, zero, suc, pred, ◌+◌, ◌<◌, ◌≤◌, Bool, true, false, List, [], ◌∷◌, ◌++◌, length, refl, ap, arith}
+use Rattle.std.proofs.lemmas.Bool.{both_ways}
+use Rattle.layout.specs.Tokens.{Token, Text, Break, Opening, Ending, widths, reached, before_reach, nest}
 
 -- a token that is no Break moves no reach
 abbrev pub quiet : Token → Bool

@@ -1,15 +1,15 @@
 -- Where a waiting token stands, what its place says, and what settling it changes.
-use Rattle.std.proofs.Common.{◌≡◌, ℕ, zero, suc, pred, ◌+◌, ◌-◌, ◌%◌, ◌<◌, ◌≤◌, Bool, true, false, cond, not, ◌&&◌, ◌||◌, eqb, ltb, ◌⊎◌, List, [], ◌∷◌, ◌++◌, length, get_or, take, drop, set, ℤ, sym, refl, ap, ◌∙◌, subst, inl, inr, ⊎_elim, arith}
+use Rattle.std.proofs.Common.{◌≡◌, ℕ, zero, suc, pred, ◌+◌, ◌<◌, ◌≤◌, true, false, cond, eqb, List, [], ◌∷◌, length, get_or, take, drop, set, sym, refl, ap, ◌∙◌, subst, ⊎_elim, arith}
 use Rattle.std.proofs.lemmas.Bool.{cases_Bool, both_ways, eq-eqb, ne_eqb, cond-true, cond-false, and_from, and_left, and_right}
-use Rattle.layout.specs.Tokens.{Token, Text, Break, Opening, Ending, width, widths, opens, free, nest}
+use Rattle.layout.specs.Tokens.{Token, Text, Break, Opening, Ending, width, widths, opens, nest}
 use Rattle.stream.specs.declared.record.Extent.{Extent}
-use Rattle.stream.specs.declared.record.Extent.TheVariants.{Known, Waiting}
+use Rattle.stream.specs.declared.record.Extent.TheVariants.{Known}
 use Rattle.stream.specs.declared.record.Slot.{Slot}
 use Rattle.stream.specs.declared.record.Place.{Place}
-use Rattle.stream.specs.Recorded.{shape, waiting, extent, slotted, recorded, deeper, place, waits, wrapped}
+use Rattle.stream.specs.Recorded.{waiting, extent, slotted, deeper, place, waits}
 use Rattle.stream.specs.Settling.{keeps, mixed, spot}
 use Rattle.stream.proofs.Nests.{nest_most, nest_shift}
-use Rattle.stream.proofs.Settles.{nest_deeper, nest_rest, nest_step, waiting_true, none_kept, some_kept, keeps_on, keeps_off, keeps_settled, cases_nest}
+use Rattle.stream.proofs.Settles.{nest_deeper, nest_rest, nest_step, none_kept, some_kept, keeps_on, keeps_off, keeps_settled, cases_nest}
 
 -- one token more in front, by whether it waits
 spot_first : (t : Token) (ts : List Token) → waiting t ts ≡ true → spot 0 (t ∷ ts) ≡ 0

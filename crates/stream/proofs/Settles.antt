@@ -1,16 +1,16 @@
 -- What becomes of records and places as a token comes.
-use Rattle.std.proofs.Common.{◌≡◌, ℕ, zero, suc, pred, ◌+◌, ◌-◌, ◌%◌, ◌<◌, ◌≤◌, Bool, true, false, cond, not, ◌&&◌, ◌||◌, eqb, ltb, ◌⊎◌, List, [], ◌∷◌, ◌++◌, length, get_or, take, drop, set, ℤ, sym, refl, ap, ◌∙◌, subst, inl, inr, ⊎_elim, arith}
-use Rattle.std.proofs.lemmas.Bool.{cases_Bool, cases_lt, both_ways, eq-eqb, ne_eqb, eqb-true, eqb-false, cond-true, cond-false, and_from, and_left, and_right, or_left, or_right, or_cases, or_parts, not-true, not-false, not_from_true, not_from_false, lt-ltb, le-ltb}
+use Rattle.std.proofs.Common.{◌≡◌, ℕ, zero, suc, ◌+◌, ◌<◌, ◌≤◌, Bool, true, false, cond, not, ◌&&◌, ◌||◌, eqb, ltb, ◌⊎◌, List, [], ◌∷◌, ◌++◌, length, take, ℤ, sym, refl, ap, ◌∙◌, subst, inl, inr, ⊎_elim, arith}
+use Rattle.std.proofs.lemmas.Bool.{cases_Bool, eq-eqb, ne_eqb, cond-true, cond-false, and_from, and_left, and_right, or_left, or_right, or_cases, or_parts, not-true, not-false, not_from_true, lt-ltb, le-ltb}
 use Rattle.std.proofs.lemmas.Bool.Decides.{nat_tests}
-use Rattle.layout.specs.Tokens.{Token, Text, Break, Opening, Ending, width, widths, opens, reached, before_reach, size, free, nest}
-use Rattle.layout.proofs.Passes.{reached_more, before_more, before_unreached}
+use Rattle.layout.specs.Tokens.{Token, Text, Break, Opening, Ending, width, widths, opens, reached, size, free, nest}
+use Rattle.layout.proofs.Passes.{reached_more, before_more}
 use Rattle.stream.specs.declared.record.Extent.{Extent}
 use Rattle.stream.specs.declared.record.Extent.TheVariants.{Known, Waiting}
 use Rattle.stream.specs.declared.record.Slot.{Slot}
 use Rattle.stream.specs.declared.record.Place.{Place}
-use Rattle.stream.specs.Recorded.{shape, waiting, extent, slotted, recorded, deeper, place, waits, wrapped}
-use Rattle.stream.specs.Settling.{keeps, mixed, spot}
-use Rattle.stream.proofs.Nests.{quiet, reached_quiet, reached_break, unreached_break, before_break, nest_append, nest_most, nest_shift, nest_reached}
+use Rattle.stream.specs.Recorded.{waiting, extent, slotted, recorded, deeper, place, waits}
+use Rattle.stream.specs.Settling.{keeps, mixed}
+use Rattle.stream.proofs.Nests.{quiet, reached_quiet, reached_break, unreached_break, before_break, nest_most, nest_reached}
 
 -- a waiting token is not free, and its reach has not come
 pub waiting_true : (t : Token) (ts : List Token) → waiting t ts ≡ true → (free t ≡ false) × (reached (opens t) ts ≡ false)

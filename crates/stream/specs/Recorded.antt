@@ -1,6 +1,6 @@
 -- Which records and places stand for the tokens that are held back.
-use Rattle.std.specs.Prelude.{ℕ, suc, pred, ◌+◌, ◌%◌, ◌≤◌, Bool, true, false, cond, not, ◌||◌, List, [], ◌∷◌, ◌++◌, length, ℤ}
-use Rattle.layout.specs.Tokens.{Token, Text, Break, Opening, Ending, width, widths, opens, reached, size, free}
+use Rattle.std.specs.Prelude.{ℕ, suc, pred, ◌+◌, ◌%◌, ◌≤◌, Bool, cond, not, ◌||◌, List, [], ◌∷◌, ◌++◌, length}
+use Rattle.layout.specs.Tokens.{Token, Text, Break, Opening, Ending, width, opens, reached, size, free}
 use Rattle.stream.specs.declared.record.Held.{Held}
 use Rattle.stream.specs.declared.record.Held.TheVariants.{Text as TextHeld, Break as BreakHeld, Opening as OpeningHeld, Ending as EndingHeld}
 use Rattle.stream.specs.declared.record.Extent.{Extent}

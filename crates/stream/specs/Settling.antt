@@ -1,5 +1,5 @@
 -- What a Break settles: it is the reach of each waiting token since whose coming no open block was opened.
-use Rattle.std.specs.Prelude.{ℕ, suc, pred, Bool, true, false, cond, ◌&&◌, List, [], ◌∷◌, ◌++◌, length, ◌==◌, nat_lt}
+use Rattle.std.specs.Prelude.{ℕ, suc, pred, cond, ◌&&◌, List, [], ◌∷◌, ◌==◌, nat_lt}
 use Rattle.layout.specs.Tokens.{Token, widths, opens, nest}
 use Rattle.stream.specs.declared.record.Extent.TheVariants.{Known}
 use Rattle.stream.specs.declared.record.Slot.{Slot}

@@ -1,15 +1,14 @@
 -- What each step of a word reader leaves.
-use Rattle.std.proofs.Common.{◌≡◌, ℕ, zero, suc, ◌+◌, ◌-◌, ◌<◌, ◌≤◌, min, Bool, true, false, List, [], ◌∷◌, ◌++◌, length, get_or, take, drop, Some, None, Ok, Err, Option, sym, refl, ap, ◌∙◌, subst, arith}
-use Rattle.std.proofs.lemmas.List.{append-nil, drop_more, drop_all}
+use Rattle.std.proofs.Common.{◌≡◌, ℕ, suc, ◌+◌, ◌<◌, ◌≤◌, min, false, List, [], ◌∷◌, ◌++◌, length, get_or, drop, Some, None, Ok, sym, refl, ap, ◌∙◌, subst, arith}
+use Rattle.std.proofs.lemmas.List.{drop_more, drop_all}
 use Rattle.std.proofs.lemmas.Bool.{both_ways}
-use Rattle.grammar.specs.Meaning.{Word as Bytes, byte, end, Answer, refused, gives}
-use Rattle.rules.specs.declared.word.Inside.{Inside}
+use Rattle.grammar.specs.Meaning.{Word as Bytes, end, Answer, refused, gives}
 use Rattle.rules.specs.Rules.{Rules, Place}
-use Rattle.rules.specs.Machine.{State, Step, on, step, next, judged, reply, means, fresh, grammar_of}
+use Rattle.rules.specs.Machine.{State, step, next, judged, reply, means, fresh}
 use Rattle.rules.specs.Lawful.{Lawful}
 use Rattle.reading.specs.Accepts.{at}
 use Rattle.reading.specs.Places.{Placed, placed_at}
-use Rattle.reading.specs.Story.{Story, whole, broken, before, story, story_of, story_byte, story_end}
+use Rattle.reading.specs.Story.{Story, before, story, story_of, story_byte, story_end}
 use Rattle.reading.proofs.Fit.{Fit, fit_fresh}
 use Rattle.reader.specs.State.{Held, state_at, under_way, ended_by, given_by}
 use Rattle.reader.specs.Goes.{Went}
@@ -18,8 +17,8 @@ use Rattle.words.specs.declared.word.Word.{Word}
 use Rattle.words.specs.declared.words.Stage.{Stage}
 use Rattle.words.specs.declared.words.Stage.TheVariants.{Reading, Ended, Broken}
 use Rattle.words.specs.Handed.{kind_of, placed_of, OfKind, Handed, FirstOf}
-use Rattle.words.specs.Left.{left_by, LastBytes, AllGood, SoundBy, IdleBy, is_reading, turns_by}
-use Rattle.words.proofs.Turns.{Turned, byte_turns, end_turns}
+use Rattle.words.specs.Left.{left_by, AllGood, SoundBy, IdleBy, is_reading, turns_by}
+use Rattle.words.proofs.Turns.{byte_turns, end_turns}
 use Rattle.words.proofs.Waits.{next_waits}
 
 -- before the first byte

@@ -1,21 +1,21 @@
 -- A byte of the text, or its end, leaves the story as it was.
-use Rattle.std.proofs.Common.{◌≡◌, ℕ, suc, ◌+◌, ◌-◌, ◌<◌, ◌≤◌, Bool, true, false, cond, List, [], ◌∷◌, ◌++◌, length, get_or, take, drop, Option, sym, refl, ap, ◌∙◌, subst, arith}
+use Rattle.std.proofs.Common.{◌≡◌, ℕ, suc, ◌+◌, ◌<◌, ◌≤◌, Bool, true, false, cond, List, [], ◌∷◌, ◌++◌, length, get_or, take, drop, Option, sym, refl, ap, ◌∙◌, subst, arith}
 use Rattle.std.proofs.lemmas.List.{append-nil, length-take, take_more, drop_more, take_all, drop_all, take-append-drop}
 use Rattle.std.proofs.lemmas.Bool.{both_ways}
 use Rattle.layout.specs.Tokens.{Token}
-use Rattle.grammar.specs.Meaning.{Word as Bytes, byte, end, Answer, refused, gives, granted, words_of}
+use Rattle.grammar.specs.Meaning.{Word as Bytes, end, Answer, refused, gives, granted, words_of}
 use Rattle.rules.specs.declared.word.Inside.{Inside}
 use Rattle.rules.specs.Rules.{Rules, stand_for}
 use Rattle.rules.specs.Machine.{State, Step, on, step, next, judged, reply, means, pending, finished}
 use Rattle.rules.specs.Lawful.{Lawful}
-use Rattle.reading.specs.Places.{Placed, placed_at}
+use Rattle.reading.specs.Places.{placed_at}
 use Rattle.reading.specs.Accepts.{step_words}
-use Rattle.reading.specs.Story.{Story, whole, before, story, story_byte, story_end, AllParts}
+use Rattle.reading.specs.Story.{whole, before, story, story_byte, story_end, AllParts}
 use Rattle.reading.proofs.Fit.{Fit, fit_next}
 use Rattle.reading.proofs.Steps.{step_word}
 use Rattle.reading.proofs.Tokens.{PlainWords}
 use Rattle.reading.proofs.Shows.{plain_stepped, plain_pending}
-use Rattle.reading.proofs.Stories.{Tail, parts_stepped, parts_end}
+use Rattle.reading.proofs.Stories.{parts_stepped, parts_end}
 use Rattle.words.specs.Left.{LastBytes, AllGood}
 
 -- words with bytes that are parts of the text

@@ -1,11 +1,11 @@
 -- What is handed out: a word by its kind, a refusal, or nothing.
-use Rattle.std.specs.Prelude.{◌≡◌, ℕ, List, [], ◌∷◌, Some, None, Ok, Err, Option, Result}
+use Rattle.std.specs.Prelude.{◌≡◌, List, [], ◌∷◌, Some, None, Ok, Err, Option, Result}
 use Rattle.grammar.specs.Meaning.{Word as Bytes}
 use Rattle.rules.specs.declared.word.Kind.{Kind}
 use Rattle.rules.specs.declared.word.Kind.TheVariants.{Opening, Closing, Comma, Colon, Text, Number, Literal, Atom}
 use Rattle.rules.specs.Rules.{Rules}
 use Rattle.reading.specs.Places.{Placed}
-use Rattle.reading.specs.Story.{Story, Close, whole, broken}
+use Rattle.reading.specs.Story.{Story, whole, broken}
 use Rattle.words.specs.declared.fault.ReadFault.{ReadFault}
 use Rattle.words.specs.declared.word.Word.{Word}
 use Rattle.words.specs.declared.word.Word.TheVariants.{Opening as OpeningWord, Closing as ClosingWord, Comma as CommaWord, Colon as ColonWord, Text as TextWord, Number as NumberWord, Literal as LiteralWord, Atom as AtomWord}

@@ -4,7 +4,7 @@ use Rattle.grammar.specs.Meaning.{Word as Bytes}
 use Rattle.rules.specs.Rules.{Rules}
 use Rattle.rules.specs.Machine.{State, means}
 use Rattle.reading.specs.Places.{Placed, placed_at}
-use Rattle.reading.specs.Story.{Story, Close, whole, broken, before, story}
+use Rattle.reading.specs.Story.{Story, whole, broken, before, story}
 use Rattle.reading.specs.Fit.{Fit}
 use Rattle.reader.specs.State.{held_of, state_of, ended_by}
 use Rattle.words.specs.declared.words.Stage.{Stage}

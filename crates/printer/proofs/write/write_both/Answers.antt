@@ -1,5 +1,5 @@
 -- The second run stands behind the first.
-use Rattle.std.proofs.Common.{◌≡◌, sym, ap, ◌∙◌}
+use Rattle.std.proofs.Common.{◌∙◌}
 use Rattle.std.proofs.lemmas.Result.{err_from_is_err_and}
 use Rattle.sink.proofs.Runs.{cut_front, stands_front, stands_behind, cases_behind}
 use Rattle.printer.proofs.write.write_both.Goals as goal

@@ -1,6 +1,6 @@
-use Rattle.std.proofs.Common.{◌≡◌, ℤ, sym, refl, ap, ◌∙◌, w8}
+use Rattle.std.proofs.Common.{ℤ, sym, ap, ◌∙◌, w8}
 use Rattle.std.proofs.lemmas.Int.{to_z-of_z}
-use Rattle.layout.specs.Tokens.{Token, Break}
+use Rattle.layout.specs.Tokens.{Break}
 use Rattle.direct.specs.Calls.{break_call, in_range}
 use Rattle.direct.proofs.job.DirectJob.break_at.Goals as goal
 

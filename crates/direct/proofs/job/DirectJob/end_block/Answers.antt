@@ -1,11 +1,11 @@
-use Rattle.std.proofs.Common.{◌≡◌, ℕ, ◌-◌, ◌≤◌, true, false, List, [], ◌∷◌, ◌++◌, reverse, length, take, Some, sym, refl, ap, ◌∙◌, subst, arith, rules}
+use Rattle.std.proofs.Common.{◌≡◌, ℕ, ◌≤◌, true, false, List, [], ◌∷◌, ◌++◌, reverse, length, take, Some, sym, refl, ap, ◌∙◌, subst, rules}
 use Rattle.std.proofs.lemmas.Result.{err_from_is_err_and}
 use Rattle.layout.specs.Tokens.{Token, Ending}
 use Rattle.layout.specs.View.{view}
 use Rattle.direct.specs.declared.fault.DirectFault.TheVariants.{Receipt as ReceiptFault}
 use Rattle.direct.specs.Asking.{FitToken}
 use Rattle.direct.specs.Calls.{ending_call, opened, without_first, meets}
-use Rattle.direct.specs.Standing.{Seen, seen}
+use Rattle.direct.specs.Standing.{seen}
 use Rattle.direct.proofs.Lays.{opened_as}
 use Rattle.direct.proofs.Tables.{opened_push, turned_less}
 use Rattle.direct.proofs.Steps.{refused_receipt, refused_none, next_refused, next_laid, by_broken, by_going, meets_as}

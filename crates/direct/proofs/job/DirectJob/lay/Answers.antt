@@ -1,12 +1,7 @@
-use Rattle.std.proofs.Common.{◌≡◌, ℕ, suc, ◌≤◌, true, List, ◌++◌, reverse, length, take, sym, refl, ap, ◌∙◌, subst, arith}
+use Rattle.std.proofs.Common.{◌≡◌, reverse, take, refl, ap, arith}
 use Rattle.std.proofs.lemmas.Result.{err_from_is_err_and}
-use Rattle.layout.specs.Tokens.{Token}
-use Rattle.layout.specs.Passing.{so_far, written}
 use Rattle.layout.specs.View.{view}
-use Rattle.sink.specs.Rule.{Rule}
-use Rattle.direct.specs.declared.fault.DirectFault.TheVariants.{Printing}
-use Rattle.direct.specs.Course.{Start}
-use Rattle.direct.specs.Standing.{Seen, seen, Opened, Goes}
+use Rattle.direct.specs.Standing.{Seen, seen}
 use Rattle.direct.proofs.Lays.{next_fit, narrow_fit, lay_ok, lay_err, stood}
 use Rattle.direct.proofs.job.DirectJob.lay.Goals as goal
 

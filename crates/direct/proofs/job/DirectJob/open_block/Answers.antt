@@ -1,4 +1,4 @@
-use Rattle.std.proofs.Common.{◌≡◌, ℕ, ◌+◌, ◌-◌, ◌<◌, ◌≤◌, true, false, leb, List, [], ◌∷◌, ◌++◌, reverse, length, take, ℤ, sym, refl, ap, ◌∙◌, subst, arith, w8, rules}
+use Rattle.std.proofs.Common.{◌≡◌, ℕ, ◌+◌, ◌<◌, ◌≤◌, true, false, leb, List, [], ◌∷◌, ◌++◌, reverse, length, take, ℤ, sym, refl, ap, ◌∙◌, subst, arith, w8, rules}
 use Rattle.std.proofs.lemmas.Result.{err_from_is_err_and}
 use Rattle.std.proofs.lemmas.Int.{to_z-of_z}
 use Rattle.std.proofs.lemmas.Bool.{le-leb, lt-leb}
@@ -6,8 +6,8 @@ use Rattle.layout.specs.Tokens.{Token, Opening, nest}
 use Rattle.layout.specs.View.{view}
 use Rattle.direct.specs.declared.fault.DirectFault.TheVariants.{Range, Blocks}
 use Rattle.direct.specs.Asking.{FitToken}
-use Rattle.direct.specs.Calls.{opening_call, near, opened, shallow_enough}
-use Rattle.direct.specs.Standing.{Seen, seen}
+use Rattle.direct.specs.Calls.{opening_call, near, opened}
+use Rattle.direct.specs.Standing.{seen}
 use Rattle.direct.proofs.Lays.{opened_as}
 use Rattle.direct.proofs.Tables.{opened_push, opened_count, turned_set, turned_length}
 use Rattle.direct.proofs.Steps.{refused_range, refused_blocks, refused_none, next_refused, next_laid, by_broken, by_going, received_err, received_ok}

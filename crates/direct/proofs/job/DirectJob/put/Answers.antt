@@ -1,10 +1,10 @@
-use Rattle.std.proofs.Common.{◌≡◌, ℕ, true, false, List, [], ◌∷◌, ◌++◌, length, sym, refl, ap, ◌∙◌, subst, arith}
+use Rattle.std.proofs.Common.{◌≡◌, [], ◌∷◌, ◌++◌, length, sym, ap, ◌∙◌, subst}
 use Rattle.layout.specs.Tokens.{Token}
 use Rattle.layout.specs.View.{view}
 use Rattle.direct.specs.declared.fault.DirectFault.TheVariants.{Range}
 use Rattle.direct.specs.Asking.{FitToken}
 use Rattle.direct.specs.Calls.{opened}
-use Rattle.direct.specs.Standing.{Seen, seen}
+use Rattle.direct.specs.Standing.{seen}
 use Rattle.direct.proofs.Steps.{refused_range, refused_none, next_refused, next_laid, by_plain, plain_opened, plain_fit, plain_met}
 use Rattle.direct.proofs.job.DirectJob.put.Goals as goal
 

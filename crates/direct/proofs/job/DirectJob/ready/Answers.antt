@@ -1,4 +1,4 @@
-use Rattle.std.proofs.Common.{◌≡◌, sym, refl, ap, ◌∙◌}
+use Rattle.std.proofs.Common.{refl}
 use Rattle.direct.specs.Standing.{seen}
 use Rattle.direct.proofs.Lays.{opened_as}
 use Rattle.direct.proofs.Steps.{ready_broken, ready_tokens, ready_ok}

@@ -1,5 +1,5 @@
-use Rattle.std.proofs.Common.{◌≡◌, ℕ, List, reverse, take, sym, refl, ap, ◌∙◌}
-use Rattle.direct.specs.Standing.{Seen, seen}
+use Rattle.std.proofs.Common.{refl}
+use Rattle.direct.specs.Standing.{seen}
 use Rattle.direct.proofs.Lays.{opened_as, laid_ok, laid_err, same_table}
 use Rattle.direct.proofs.job.DirectJob.take.Goals as goal
 

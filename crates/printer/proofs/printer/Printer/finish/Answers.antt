@@ -1,4 +1,4 @@
-use Rattle.std.proofs.Common.{◌≡◌, ℕ, sym, refl, ap, ◌∙◌, subst}
+use Rattle.std.proofs.Common.{◌∙◌}
 use Rattle.std.proofs.lemmas.Result.{err_from_is_err_and}
 use Rattle.printer.proofs.Ending.{finished_end, finished_cut, ended_as}
 use Rattle.printer.proofs.printer.Printer.finish.Goals as goal

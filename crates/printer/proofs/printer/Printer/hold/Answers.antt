@@ -1,6 +1,6 @@
-use Rattle.std.proofs.Common.{◌≡◌, ℕ, ◌+◌, ◌<◌, ◌≤◌, length, ℤ, sym, refl, ap, ◌∙◌, subst, arith, w8, SFits, rules}
+use Rattle.std.proofs.Common.{◌≡◌, ◌<◌, length, ℤ, sym, refl, ap, ◌∙◌, subst, arith, w8, SFits, rules}
 use Rattle.std.proofs.lemmas.Int.{to_z-of_z}
-use Rattle.layout.specs.Tokens.{Token, Text, Break, Opening, Ending}
+use Rattle.layout.specs.Tokens.{Text, Break, Opening, Ending}
 use Rattle.layout.specs.View.{view}
 use Rattle.printer.specs.Giving.{Next}
 use Rattle.printer.proofs.Holding.{texts_narrow, held_more}

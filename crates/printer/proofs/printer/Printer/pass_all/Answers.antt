@@ -1,7 +1,7 @@
-use Rattle.std.proofs.Common.{◌≡◌, ℕ, ◌+◌, Bool, true, false, ◌++◌, length, Ok, Err, sym, refl, ap, ◌∙◌, subst, arith}
+use Rattle.std.proofs.Common.{◌+◌, Bool, true, false, ◌++◌, length, Ok, Err, refl, ap, ◌∙◌, arith}
 use Rattle.std.proofs.lemmas.Result.{err_from_is_err_and}
 use Rattle.layout.specs.Layout.{joined}
-use Rattle.printer.proofs.Course.{Sofar, begins, goes_on, stops, cuts, advanced_as, all_passed}
+use Rattle.printer.proofs.Course.{begins, goes_on, stops, cuts, advanced_as, all_passed}
 use Rattle.printer.proofs.printer.Printer.pass_all.Goals as goal
 
 pub loop-init : goal.loop-init

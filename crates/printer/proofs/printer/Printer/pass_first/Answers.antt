@@ -1,4 +1,4 @@
-use Rattle.std.proofs.Common.{◌≡◌, ℕ, sym, refl, ap, ◌∙◌, subst}
+use Rattle.std.proofs.Common.{sym, refl, ap, ◌∙◌}
 use Rattle.std.proofs.lemmas.Result.{err_from_is_err_and}
 use Rattle.printer.specs.declared.fault.AtToken.{AtToken}
 use Rattle.printer.specs.declared.fault.PrinterFault.TheVariants.{Sink}

@@ -1,4 +1,4 @@
-use Rattle.std.proofs.Common.{◌≡◌, ℕ, ap, arith}
+use Rattle.std.proofs.Common.{ap, arith}
 use Rattle.printer.specs.declared.fault.PrinterFault.TheVariants.{Full}
 use Rattle.printer.proofs.printer.Printer.room.Goals as goal
 

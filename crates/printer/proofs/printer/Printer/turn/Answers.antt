@@ -1,4 +1,4 @@
-use Rattle.std.proofs.Common.{◌≡◌, ℕ, ◌+◌, leb, ◌⊎◌, sym, refl, ap, ◌∙◌, inl, inr, ⊎_elim}
+use Rattle.std.proofs.Common.{ℕ, ◌+◌, leb, ap, ◌∙◌, inl, inr, ⊎_elim}
 use Rattle.printer.proofs.Turns.{turn_none, turn_known, turn_waiting}
 use Rattle.printer.proofs.printer.Printer.turn.Goals as goal
 

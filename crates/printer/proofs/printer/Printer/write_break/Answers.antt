@@ -1,7 +1,5 @@
-use Rattle.std.proofs.Common.{◌≡◌, ℕ, List, ◌++◌, ℤ, sym, refl, ap, ◌∙◌, subst, w8}
+use Rattle.std.proofs.Common.{ℤ, refl, ap, ◌∙◌, w8}
 use Rattle.std.proofs.lemmas.Result.{err_from_is_err_and}
-use Rattle.layout.specs.Tokens.{Break}
-use Rattle.layout.specs.Layout.{writes, after}
 use Rattle.std.proofs.lemmas.Int.{to_z-of_z}
 use Rattle.pen.specs.At.{bytes_of, breaking}
 use Rattle.pen.proofs.Breaks.{breaking_writes, after_break}

@@ -1,6 +1,6 @@
-use Rattle.std.proofs.Common.{◌≡◌, ℕ, ◌++◌, ℤ, sym, refl, ap, ◌∙◌, subst, w8, SFits, to_z, of_z, rules}
+use Rattle.std.proofs.Common.{◌++◌, ℤ, sym, refl, ◌∙◌, subst, w8, SFits, rules}
 use Rattle.std.proofs.lemmas.Int.{to_z-of_z}
-use Rattle.layout.specs.Tokens.{Token, Break, Opening, Ending}
+use Rattle.layout.specs.Tokens.{Break, Opening, Ending}
 use Rattle.layout.specs.Layout.{writes, after}
 use Rattle.pen.specs.At.{At}
 use Rattle.printer.specs.Printing.{Moved, Stepped}

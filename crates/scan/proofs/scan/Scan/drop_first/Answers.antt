@@ -1,6 +1,5 @@
-use Rattle.std.proofs.Common.{◌≡◌, ℕ, ◌+◌, ◌%◌, List, length, drop, sym, refl, ap, ◌∙◌, arith}
+use Rattle.std.proofs.Common.{ℕ, ◌+◌, ◌%◌, length, drop, sym, refl, ap, ◌∙◌, arith}
 use Rattle.queue.specs.Held.{held}
-use Rattle.stream.specs.declared.record.Place.{Place}
 use Rattle.scan.proofs.Goes.{gone}
 use Rattle.scan.proofs.scan.Scan.drop_first.Goals as goal
 

@@ -1,4 +1,4 @@
-use Rattle.std.proofs.Common.{◌≡◌, refl}
+use Rattle.std.proofs.Common.{refl}
 use Rattle.queue.proofs.Turn.{held_empty}
 use Rattle.scan.proofs.Comes.{fresh}
 use Rattle.scan.proofs.scan.Scan.new.Goals as goal

@@ -1,8 +1,7 @@
-use Rattle.std.proofs.Common.{◌≡◌, ℕ, ◌+◌, ◌<◌, ◌≤◌, List, [], ◌∷◌, ◌++◌, length, ℤ, sym, refl, ap, ◌∙◌, append-nil, arith, w8, rules}
+use Rattle.std.proofs.Common.{◌≡◌, [], ◌∷◌, ◌++◌, length, ℤ, sym, refl, ap, ◌∙◌, append-nil, arith, w8, rules}
 use Rattle.std.proofs.lemmas.List.{length-take}
 use Rattle.std.proofs.lemmas.Int.{to_z-of_z}
 use Rattle.queue.specs.Held.{held}
-use Rattle.stream.specs.declared.record.Slot.{Slot}
 use Rattle.stream.specs.declared.record.Place.{Place}
 use Rattle.stream.specs.declared.record.Held.TheVariants.{Break as BreakHeld}
 use Rattle.stream.specs.declared.record.Extent.TheVariants.{Waiting}

@@ -1,4 +1,4 @@
-use Rattle.std.proofs.Common.{◌≡◌, ℕ, ◌<◌, length, sym, refl, ap, ◌∙◌, append-nil, sub-one, arith, rules}
+use Rattle.std.proofs.Common.{◌≡◌, length, sym, refl, ap, ◌∙◌, append-nil, sub-one, arith, rules}
 use Rattle.queue.specs.Held.{held}
 use Rattle.layout.specs.Tokens.{Ending}
 use Rattle.scan.proofs.Comes.{pushed, length_recorded, come_quiet}

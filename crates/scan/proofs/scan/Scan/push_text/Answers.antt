@@ -1,7 +1,6 @@
-use Rattle.std.proofs.Common.{◌≡◌, ℕ, ◌+◌, ◌<◌, ◌≤◌, List, [], ◌∷◌, ◌++◌, length, sym, refl, ap, ◌∙◌, append-nil, arith, rules}
+use Rattle.std.proofs.Common.{◌≡◌, ℕ, [], ◌∷◌, ◌++◌, length, sym, refl, ap, ◌∙◌, append-nil, arith, rules}
 use Rattle.queue.specs.Held.{held}
 use Rattle.layout.specs.Tokens.{Text}
-use Rattle.stream.specs.declared.record.Slot.{Slot}
 use Rattle.stream.specs.declared.record.Held.TheVariants.{Text as TextHeld}
 use Rattle.stream.specs.declared.record.Extent.TheVariants.{Known}
 use Rattle.scan.proofs.Comes.{pushed, pushed_all, length_recorded, come_quiet}

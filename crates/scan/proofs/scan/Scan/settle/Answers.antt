@@ -1,7 +1,5 @@
-use Rattle.std.proofs.Common.{◌≡◌, ℕ, List, sym, refl, ap, ◌∙◌, subst}
-use Rattle.layout.specs.Tokens.{Token}
-use Rattle.stream.specs.Settling.{keeps}
-use Rattle.scan.specs.Holding.{Holds, Settling}
+use Rattle.std.proofs.Common.{ℕ, refl, subst}
+use Rattle.scan.specs.Holding.{Settling}
 use Rattle.scan.proofs.Comes.{settling_starts}
 use Rattle.scan.proofs.Settled.{keeps_waits}
 use Rattle.scan.proofs.scan.Scan.settle.Goals as goal

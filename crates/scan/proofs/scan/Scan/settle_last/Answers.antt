@@ -1,15 +1,12 @@
-use Rattle.std.proofs.Common.{◌≡◌, ℕ, suc, ◌+◌, ◌-◌, ◌%◌, ◌<◌, ◌≤◌, true, List, [], ◌∷◌, ◌++◌, length, get_or, take, drop, set, sym, refl, ap, ◌∙◌, arith, rules}
+use Rattle.std.proofs.Common.{◌≡◌, ℕ, ◌-◌, ◌≤◌, List, length, take, ap, ◌∙◌, arith, rules}
 use Rattle.std.proofs.lemmas.List.{length_push}
 use Rattle.std.proofs.lemmas.Bool.{false≢true}
 use Rattle.queue.specs.Held.{held}
 use Rattle.queue.proofs.Turn.{length_held_le}
-use Rattle.layout.specs.Tokens.{Token, widths}
-use Rattle.stream.specs.declared.record.Place.{Place}
-use Rattle.stream.specs.declared.record.Slot.{Slot}
-use Rattle.stream.specs.Settling.{mixed, spot}
-use Rattle.stream.proofs.Places.{sized, mixed_step}
+use Rattle.layout.specs.Tokens.{Token}
+use Rattle.stream.specs.Settling.{mixed}
 use Rattle.scan.specs.declared.scan.Scan.{Scan}
-use Rattle.scan.specs.Holding.{Counts, Settling}
+use Rattle.scan.specs.Holding.{Settling}
 use Rattle.scan.proofs.Comes.{length_mixed}
 use Rattle.scan.proofs.Settled.{popped, settle_none, settle_stop, settle_step, settled_slots, settled_places}
 use Rattle.scan.proofs.scan.Scan.settle_last.Goals as goal

@@ -1,4 +1,3 @@
-use Rattle.std.proofs.Common.{refl}
 use Rattle.reader.specs.State.{held_of, state_of, ended_by}
 use Rattle.words.proofs.Waits.{tells_idle}
 use Rattle.words.proofs.words.Words.idle.Goals as goal
