@@ -5,7 +5,7 @@ use crate::fault::ReadFault;
 use reader::reader::Reader;
 
 pub mod handing;
-mod reading;
+mod taking;
 mod waiting;
 
 // How far the reading has come: it goes on; the end was taken; or a byte or the end was refused.
