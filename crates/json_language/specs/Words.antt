@@ -100,7 +100,7 @@ some p K = one p (Many p K)
 abbrev pub int : Lang → Lang
 int K = either (one zero_digit) (λ L. one digit_1_9 (Many digit L)) K
 
--- frac = decimal_point 1*DIGIT
+-- frac = decimal-point 1*DIGIT
 abbrev pub frac : Lang → Lang
 frac K = one decimal_point (some digit K)
 
