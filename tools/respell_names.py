@@ -7,7 +7,8 @@ A definition or lemma is what specs/ and proofs/ define, or name in a `where`, a
 name with hyphens becomes one with underscores (`slot-below`: `slot_below`), one that begins with a
 capital letter has its parts joined (`Is-cut`: `IsCut`), and a small name with capitals inside gets
 underscores (`ruleOf`: `rule_of`). Names of goals, of src/, and of the library stay. Files of specs/,
-proofs/, src/, must-fail/, docs/ and the README are rewritten in place. --list prints the names alone.
+proofs/, src/, must-fail/, docs/ and the README are rewritten in place, comments too: look for a name that
+a comment quotes from elsewhere. --list prints the names alone.
 """
 import os
 import re
@@ -80,4 +81,5 @@ def main():
                 f.write(new)
 
 
-main()
+if __name__ == "__main__":
+    main()

@@ -8,24 +8,12 @@ had their underscores turned to hyphens (`push-back`), and now keep them (`push_
 prover of more than one part have underscores now (`in-ok-x`: `in_ok-x`). Rewrites Answers.antt,
 Invariants.antt and Choices.antt below proofs/ in place.
 """
-import os
 import re
+
+from respell_names import files, read
 
 STD = "split_at saturating_sub saturating_add split_first split_last from_residual to_vec into_buffer copy_from_slice".split()
 WORDS = "in_ok in_err in_default invariant_of from_residual overflow_add type_inv".split()
-
-
-def files(root, ends):
-    for folder, dirs, names in os.walk(root):
-        dirs[:] = sorted(d for d in dirs if d not in ("out", ".git"))
-        for name in sorted(names):
-            if name.endswith(ends):
-                yield os.path.join(folder, name)
-
-
-def read(path):
-    with open(path, encoding="utf-8") as f:
-        return f.read()
 
 
 def main():
