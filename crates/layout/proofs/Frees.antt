@@ -17,7 +17,7 @@ chosen_of false n k = refl
 piece_free : (m : ℕ) (pen : Pen) (t : Token) (f : Bool) → (c : Choice) × (writes m pen t f ≡ shown c t)
 piece_free m pen (Text bytes) f = (as_blanks, refl)
 piece_free m pen (Break n offset) f =
-    (choice_of (stays (innermost pen.blocks).mode f) (next_indent m pen offset), chosen_of (stays (innermost pen.blocks).mode f) n (next_indent m pen offset))
+    (choice_of (stays (innermost pen.blocks).fold f) (next_indent m pen offset), chosen_of (stays (innermost pen.blocks).fold f) n (next_indent m pen offset))
 piece_free m pen (Opening offset fold anchor) f = (as_blanks, refl)
 piece_free m pen Ending f = (as_blanks, refl)
 

@@ -1,12 +1,10 @@
 -- The layout of a list of tokens at a margin, with everything known.
-use Rattle.std.specs.Prelude.{ℕ, ◌+◌, Bool, true, false, cond, List, [], ◌∷◌, ◌++◌, length, replicate, ℤ, nat_le}
+use Rattle.std.specs.Prelude.{ℕ, ◌+◌, Bool, true, false, cond, List, [], ◌∷◌, ◌++◌, length, replicate, ℤ, Some, None, Option, nat_le}
 use Rattle.layout.specs.declared.token.Fold.{Fold}
-use Rattle.layout.specs.declared.token.Fold.TheVariants.{All as AllFold, Each as EachFold}
+use Rattle.layout.specs.declared.token.Fold.TheVariants.{All, Each}
 use Rattle.layout.specs.declared.token.Anchor.{Anchor}
 use Rattle.layout.specs.declared.token.Anchor.TheVariants.{Column, Indent}
 use Rattle.layout.specs.declared.token.Block.{Block}
-use Rattle.layout.specs.declared.token.Mode.{Mode}
-use Rattle.layout.specs.declared.token.Mode.TheVariants.{Flat, All, Each}
 use Rattle.layout.specs.Margins.{indented}
 use Rattle.layout.specs.Tokens.{Token, Text, Break, Opening, Ending, size}
 
@@ -21,7 +19,7 @@ start = record { column = 0; blocks = [] }
 
 -- the innermost open block
 abbrev pub innermost : List Block → Block
-innermost [] = record { mode = All; indent = 0 }
+innermost [] = record { fold = Some All; indent = 0 }
 innermost (b ∷ bs) = b
 
 -- the blocks without the innermost
@@ -30,10 +28,9 @@ enclosing [] = []
 enclosing (b ∷ bs) = bs
 
 -- a block that fits lies flat, any other has its own fold
-abbrev pub mode_of : Bool → Fold → Mode
-mode_of true fold = Flat
-mode_of false AllFold = All
-mode_of false EachFold = Each
+abbrev pub fold_of : Bool → Fold → Option Fold
+fold_of true fold = None
+fold_of false fold = Some fold
 
 -- the base of a new block's indentation
 abbrev pub base_of : Pen → Anchor → ℕ
@@ -41,10 +38,10 @@ base_of pen Column = pen.column
 base_of pen Indent = (innermost pen.blocks).indent
 
 -- is a Break in such a block written as blanks? In an each block it is where it fits
-abbrev pub stays : Mode → Bool → Bool
-stays Flat fits = true
-stays All fits = false
-stays Each fits = fits
+abbrev pub stays : Option Fold → Bool → Bool
+stays None fits = true
+stays (Some All) fits = false
+stays (Some Each) fits = fits
 
 -- n written blanks
 abbrev pub blanks : ℕ → List ℕ
@@ -57,14 +54,14 @@ next_indent margin pen offset = indented (innermost pen.blocks).indent offset ma
 -- what a token writes, and where writing stands after it, given whether the column plus its size is within the margin
 abbrev pub writes : ℕ → Pen → Token → Bool → List ℕ
 writes margin pen (Text bytes) fits = bytes
-writes margin pen (Break n offset) fits = cond (stays (innermost pen.blocks).mode fits) (blanks n) (0x0A ∷ blanks (next_indent margin pen offset))
+writes margin pen (Break n offset) fits = cond (stays (innermost pen.blocks).fold fits) (blanks n) (0x0A ∷ blanks (next_indent margin pen offset))
 writes margin pen (Opening offset fold anchor) fits = []
 writes margin pen Ending fits = []
 
 abbrev pub after : ℕ → Pen → Token → Bool → Pen
 after margin pen (Text bytes) fits = record { column = pen.column + length bytes; blocks = pen.blocks }
-after margin pen (Break n offset) fits = record { column = cond (stays (innermost pen.blocks).mode fits) (pen.column + n) (next_indent margin pen offset); blocks = pen.blocks }
-after margin pen (Opening offset fold anchor) fits = record { column = pen.column; blocks = (record { mode = mode_of fits fold; indent = indented (base_of pen anchor) offset margin }) ∷ pen.blocks }
+after margin pen (Break n offset) fits = record { column = cond (stays (innermost pen.blocks).fold fits) (pen.column + n) (next_indent margin pen offset); blocks = pen.blocks }
+after margin pen (Opening offset fold anchor) fits = record { column = pen.column; blocks = (record { fold = fold_of fits fold; indent = indented (base_of pen anchor) offset margin }) ∷ pen.blocks }
 after margin pen Ending fits = record { column = pen.column; blocks = enclosing pen.blocks }
 
 -- does the token, followed by `ts`, fit: is its column plus its size within the margin?

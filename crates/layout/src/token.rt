@@ -15,33 +15,41 @@ pub enum Anchor {
     Indent,
 }
 
-// How an open block treats its Breaks: it lies on one line, or folds at all or at each of them.
-#[derive(Clone, Copy, PartialEq, Eq, Debug)]
-pub enum Mode {
-    Flat,
-    All,
-    Each,
-}
-
-// An open block: how it treats its Breaks, and its indentation.
-#[derive(Clone, Copy, PartialEq, Eq, Debug)]
+// An open block: how it folds, none where it lies on one line; and its indentation.
+#[derive(Clone, Copy, Default, PartialEq, Eq, Debug)]
 pub struct Block {
-    pub mode: Mode,
+    pub fold: Option<Fold>,
     pub indent: u8,
 }
 
-// A token as it is handed in.
-#[derive(Clone, Copy)]
-pub enum Token<'a> {
-    Text(&'a [u8]),
-    Break {
-        blanks: u8,
-        offset: i8,
-    },
-    Opening {
-        offset: i8,
-        fold: Fold,
-        anchor: Anchor,
-    },
+impl Block {
+    // The block around all others.
+    pub const OUTERMOST: Block = Block {
+        fold: Some(Fold::All),
+        indent: 0,
+    };
+}
+
+// A Break: so many blanks, or a newline and an indentation moved by the offset.
+#[derive(Clone, Copy, PartialEq, Eq, Debug)]
+pub struct Break {
+    pub blanks: u8,
+    pub offset: i8,
+}
+
+// The Opening of a block: how its indentation is moved, how it breaks, and from where it is indented.
+#[derive(Clone, Copy, PartialEq, Eq, Debug)]
+pub struct Opening {
+    pub offset: i8,
+    pub fold: Fold,
+    pub anchor: Anchor,
+}
+
+// A token, whose Text is a T: its bytes, where it is handed in.
+#[derive(Clone, Copy, PartialEq, Eq, Debug)]
+pub enum Token<T> {
+    Text(T),
+    Break(Break),
+    Opening(Opening),
     Ending,
 }
