@@ -1,10 +1,12 @@
 -- How a reader answers.
 use Rattle.std.specs.Prelude.{◌≡◌, ℕ, ◌<◌, ◌≤◌, List, [], length, Some, None, Ok, Err, Option, Result, slice_index_or}
+use Rattle.std.specs.Borrow.{Bor}
 use Rattle.layout.specs.declared.token.Token.{Token as Handed}
 use Rattle.layout.specs.Tokens.{Token, Ending}
 use Rattle.layout.specs.View.{view}
 use Rattle.grammar.specs.declared.refusal.Refusal.{Refusal}
 use Rattle.grammar.specs.declared.grammar.Step.{Step}
+use Rattle.grammar.specs.Refusals.{number_of}
 use Rattle.grammar.specs.Meaning.{Word, byte, end, Answer, refused, gives, Meaning, after}
 
 -- the answer gives the tokens ts, and the counts of its words and tokens
@@ -14,14 +16,14 @@ Gives a ts step = (ws : List Word) × (a ≡ gives ws ts) × (step.words ≡ len
 -- a byte is taken: it gives what the meaning says, and leaves the meaning for the rest; or it is refused by the number that the meaning says
 abbrev pub Took : Meaning → ℕ → Type 0 → Meaning → List Token → Result Step Refusal → Type 0
 Took m b Valid m' ts (Ok step) = Valid × (m' ≡ after m b) × Gives (m.answer [] (byte b)) ts step
-Took m b Valid m' ts (Err e) = m.answer [] (byte b) ≡ refused e.number
+Took m b Valid m' ts (Err e) = m.answer [] (byte b) ≡ refused (number_of e)
 
 -- the end
 abbrev pub Closed : Meaning → List Token → Result Step Refusal → Type 0
 Closed m ts (Ok step) = Gives (m.answer [] end) ts step
-Closed m ts (Err e) = m.answer [] end ≡ refused e.number
+Closed m ts (Err e) = m.answer [] end ≡ refused (number_of e)
 
 -- the token of this number, or none where there are not so many
-abbrev pub Nth : List Token → ℕ → Option Handed → Type 0
+abbrev pub Nth : List Token → ℕ → Option (Handed (Bor (List ℕ))) → Type 0
 Nth ts n None = length ts ≤ n
 Nth ts n (Some t) = (n < length ts) × (view t ≡ slice_index_or ts n Ending)

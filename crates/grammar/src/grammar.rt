@@ -45,7 +45,7 @@ pub trait Grammar: Sized {
         ensures { valid self.old → Closed (meaning self.old) (given self.new) result };
 
     // The token of this number among those given last, if there are so many.
-    fn token(&self, number: u32) -> Option<Token<'_>>
+    fn token(&self, number: u32) -> Option<Token<&[u8]>>
         ensures { Nth (given self.now) number result };
 
     // The brackets open among the words that the bytes taken have ended.

@@ -17,7 +17,7 @@ use Rattle.rules.specs.declared.place.Expects.{Expects}
 use Rattle.rules.specs.declared.place.Expects.TheVariants.{First, Next, Colon, Value, After}
 use Rattle.rules.specs.declared.place.Move.{Move}
 use Rattle.rules.specs.declared.place.Move.TheVariants.{Within, Opens, Closes}
-use Rattle.rules.specs.declared.place.Lead.{Lead}
+use Rattle.layout.specs.declared.token.Break.{Break as Lead}
 use Rattle.rules.specs.Rules.{Rules}
 use Rattle.rules.specs.Escapes.{escape_of}
 use Rattle.json_language.specs.declared.class.Class.{Class}

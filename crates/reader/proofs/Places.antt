@@ -6,7 +6,7 @@ use Rattle.rules.specs.declared.word.Begin.TheVariants.{Sole}
 use Rattle.rules.specs.declared.place.Bracket.{Bracket}
 use Rattle.rules.specs.declared.place.Expects.{Expects}
 use Rattle.rules.specs.declared.place.Expects.TheVariants.{First, After}
-use Rattle.rules.specs.declared.place.Lead.{Lead}
+use Rattle.layout.specs.declared.token.Break.{Break as Lead}
 use Rattle.rules.specs.declared.place.Move.{Move}
 use Rattle.rules.specs.declared.place.Move.TheVariants.{Opens, Closes}
 use Rattle.rules.specs.Rules.{Rules, Place, innermost, moves_at, is_some, admits, moved, placed, behind, stand_for}

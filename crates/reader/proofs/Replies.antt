@@ -7,8 +7,8 @@ use Rattle.layout.specs.Tokens.{Text}
 use Rattle.grammar.specs.declared.grammar.Step.{Step}
 use Rattle.grammar.specs.Meaning.{Word}
 use Rattle.grammar.specs.Reading.{Took}
-use Rattle.rules.specs.declared.place.BlockForm.{BlockForm}
-use Rattle.rules.specs.declared.place.Lead.{Lead}
+use Rattle.layout.specs.declared.token.Opening.{Opening as BlockForm}
+use Rattle.layout.specs.declared.token.Break.{Break as Lead}
 use Rattle.rules.specs.Rules.{Rules, Place, is_some, led}
 use Rattle.rules.specs.Machine.{State, step, next, means, no_brackets}
 use Rattle.reading.specs.Accepts.{at}

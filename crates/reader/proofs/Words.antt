@@ -6,7 +6,7 @@ use Rattle.layout.specs.Tokens.{Token, Text}
 use Rattle.grammar.specs.Meaning.{Word, gives, refused}
 use Rattle.rules.specs.declared.word.Begin.{Begin}
 use Rattle.rules.specs.declared.word.Begin.TheVariants.{Sole}
-use Rattle.rules.specs.declared.place.Lead.{Lead}
+use Rattle.layout.specs.declared.token.Break.{Break as Lead}
 use Rattle.rules.specs.declared.place.Move.{Move}
 use Rattle.rules.specs.declared.place.Move.TheVariants.{Within, Opens, Closes}
 use Rattle.rules.specs.Rules.{Rules, Place, moves_at, admits, behind, led, opened, closed, word_tokens}

@@ -2,10 +2,10 @@
 use Rattle.std.specs.Prelude.{ℕ, ◌+◌, Bool, true, false, List, [], ◌∷◌, ◌++◌, Some, None, Option}
 use Rattle.layout.specs.Tokens.{Token, Text, Opening, Ending}
 use Rattle.grammar.specs.Meaning.{Word}
-use Rattle.rules.specs.declared.place.Lead.{Lead}
+use Rattle.layout.specs.declared.token.Break.{Break as Lead}
 use Rattle.rules.specs.declared.place.Move.{Move}
 use Rattle.rules.specs.declared.place.Move.TheVariants.{Within, Opens, Closes}
-use Rattle.rules.specs.declared.place.BlockForm.{BlockForm}
+use Rattle.layout.specs.declared.token.Opening.{Opening as BlockForm}
 use Rattle.rules.specs.Rules.{Rules, Place, moves_at, is_some, led}
 use Rattle.reader.specs.declared.piece.Piece.{Piece}
 

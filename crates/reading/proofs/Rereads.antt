@@ -8,8 +8,8 @@ use Rattle.layout.specs.Writings.{Choice, as_blanks, as_line, chosen, shown, sho
 use Rattle.grammar.specs.Meaning.{Word}
 use Rattle.rules.specs.declared.place.Move.{Move}
 use Rattle.rules.specs.declared.place.Move.TheVariants.{Within, Opens, Closes}
-use Rattle.rules.specs.declared.place.Lead.{Lead}
-use Rattle.rules.specs.declared.place.BlockForm.{BlockForm}
+use Rattle.layout.specs.declared.token.Break.{Break as Lead}
+use Rattle.layout.specs.declared.token.Opening.{Opening as BlockForm}
 use Rattle.rules.specs.Rules.{Rules, Place, loose, is_some, moves_at, admits, placed, moved, behind, led, opened, closed, word_tokens, stand_for}
 use Rattle.rules.specs.Language.{WrittenBy, blank_byte, word_then, nothing, Delimited, FollowsKind, is_blank, blank_of, parses}
 use Rattle.rules.specs.Lawful.{Lawful, Apart, AllSpelled}

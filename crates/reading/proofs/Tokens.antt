@@ -10,8 +10,8 @@ use Rattle.grammar.specs.Laws.{Fine, AllFine, Nested}
 use Rattle.rules.specs.declared.place.Bracket.{Bracket}
 use Rattle.rules.specs.declared.place.Move.{Move}
 use Rattle.rules.specs.declared.place.Move.TheVariants.{Within, Opens, Closes}
-use Rattle.rules.specs.declared.place.Lead.{Lead}
-use Rattle.rules.specs.declared.place.BlockForm.{BlockForm}
+use Rattle.layout.specs.declared.token.Break.{Break as Lead}
+use Rattle.layout.specs.declared.token.Opening.{Opening as BlockForm}
 use Rattle.rules.specs.Rules.{Rules, Place, innermost, without_innermost, moves_at, placed, behind, behind_all, led, opened, closed, word_tokens, stand_for}
 use Rattle.rules.specs.Machine.{short, all_short, low, all_low}
 use Rattle.rules.specs.Lawful.{Lawful, Ranged}

@@ -10,7 +10,7 @@ use Rattle.rules.specs.declared.place.Bracket.{Bracket}
 use Rattle.rules.specs.declared.place.Expects.{Expects}
 use Rattle.rules.specs.declared.place.Move.{Move}
 use Rattle.rules.specs.declared.place.Move.TheVariants.{Within, Opens, Closes}
-use Rattle.rules.specs.declared.place.Lead.{Lead}
+use Rattle.layout.specs.declared.token.Break.{Break as Lead}
 use Rattle.rules.specs.Rules.{Rules, Place, loose, admits, behind, moved, moves_at}
 use Rattle.rules.specs.Machine.{first_place}
 use Rattle.rules.specs.Language.{is_opening, is_closing, spelled, spelled_on, parses}

@@ -12,8 +12,8 @@ use Rattle.rules.specs.declared.place.Expects.{Expects}
 use Rattle.rules.specs.declared.place.Expects.TheVariants.{First, After}
 use Rattle.rules.specs.declared.place.Move.{Move}
 use Rattle.rules.specs.declared.place.Move.TheVariants.{Within, Opens, Closes}
-use Rattle.rules.specs.declared.place.Lead.{Lead}
-use Rattle.rules.specs.declared.place.BlockForm.{BlockForm}
+use Rattle.layout.specs.declared.token.Break.{Break as Lead}
+use Rattle.layout.specs.declared.token.Opening.{Opening as BlockForm}
 
 -- What a grammar decides.
 pub record Rules : Type 0 where

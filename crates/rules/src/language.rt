@@ -3,8 +3,9 @@ ghost use Rattle.std.specs.Prelude.{◌≡◌};
 ghost use Rattle.rules.specs.Rules.{Rules};
 ghost use Rattle.rules.specs.Lawful.{Lawful};
 
-use crate::place::{BlockForm, Bracket, Expects, Lead, Move};
+use crate::place::{Expects, Move, Spot};
 use crate::word::{Begin, Inside, Kind, Turn};
+use layout::token::{Break, Opening};
 
 pub trait Language {
     // the rules, and the proof that they are lawful
@@ -32,16 +33,16 @@ pub trait Language {
     fn delimits(byte: u8) -> bool
         ensures { result ≡ rules.delimits byte };
 
-    // What a word with this first byte does at a place; none where it may not stand there.
-    fn moves(expects: Expects, innermost: Option<Bracket>, first: u8) -> Option<Move>
-        ensures { result ≡ rules.moves expects innermost first };
+    // What a word with this first byte does at a spot; none where it may not stand there.
+    fn moves(spot: Spot, first: u8) -> Option<Move>
+        ensures { result ≡ rules.moves spot.expects spot.innermost first };
 
     // The Break before a word with this first byte, if any.
-    fn lead(expects: Expects, first: u8) -> Option<Lead>
+    fn lead(expects: Expects, first: u8) -> Option<Break>
         ensures { result ≡ rules.lead expects first };
 
-    // The block of a bracket.
-    fn block() -> BlockForm
+    // The Opening of a bracket's block.
+    fn block() -> Opening
         ensures { result ≡ rules.block };
 
     // The bytes of a word's Text.

@@ -1,5 +1,4 @@
 // Where a word may stand, and what it does there.
-use layout::token::{Anchor, Fold};
 
 // The brackets.
 #[derive(Clone, Copy, PartialEq, Eq, Debug)]
@@ -27,6 +26,13 @@ pub enum Expects {
     After,
 }
 
+// Where a word would stand: what may come there, and the innermost open bracket.
+#[derive(Clone, Copy, PartialEq, Eq, Debug)]
+pub struct Spot {
+    pub expects: Expects,
+    pub innermost: Option<Bracket>,
+}
+
 // What a word does to the place.
 #[derive(Clone, Copy, PartialEq, Eq, Debug)]
 pub enum Move {
@@ -36,19 +42,4 @@ pub enum Move {
     Opens(Bracket),
     // it closes the innermost bracket
     Closes,
-}
-
-// The Break in front of a word.
-#[derive(Clone, Copy, PartialEq, Eq, Debug)]
-pub struct Lead {
-    pub blanks: u8,
-    pub offset: i8,
-}
-
-// The Opening that every opening word of a grammar gives.
-#[derive(Clone, Copy, PartialEq, Eq, Debug)]
-pub struct BlockForm {
-    pub offset: i8,
-    pub fold: Fold,
-    pub anchor: Anchor,
 }

@@ -1,4 +1,5 @@
 // How a word begins, goes on and ends.
+use std::fmt;
 
 // The kinds of words. A word's kind shows in its first byte.
 #[derive(Clone, Copy, PartialEq, Eq, Debug)]
@@ -11,6 +12,21 @@ pub enum Kind {
     Number,
     Literal,
     Atom,
+}
+
+impl fmt::Display for Kind {
+    fn fmt<W: fmt::Write>(&self, f: &mut fmt::Formatter<W>) -> fmt::Result {
+        f.write_str(match self {
+            Kind::Opening => "opening",
+            Kind::Closing => "closing",
+            Kind::Comma => "comma",
+            Kind::Colon => "colon",
+            Kind::Text => "string",
+            Kind::Number => "number",
+            Kind::Literal => "literal",
+            Kind::Atom => "atom",
+        })
+    }
 }
 
 // How far a number has come: the part to which its last byte belongs.
