@@ -1,6 +1,6 @@
 // A queue of at most N elements, in a ring of slots that it owns: it begins at one of the slots, and goes
 // on from the last slot to the first. Contracts see the list of its elements, first to last, and not where
-// they stand. No function requires anything, and a refusal changes nothing. N may be any number, 0 too.
+// they stand. No call of it requires anything, and a refusal changes nothing. N may be any number, 0 too.
 // Each call does a constant amount of work, but for `push_all`, which copies its elements one by one.
 #![tactic(auto)]
 

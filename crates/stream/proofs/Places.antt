@@ -1,9 +1,7 @@
 -- Where a waiting token stands, what its place says, and what settling it changes.
-use Rattle.std.proofs.Common.{◌≡◌, ℕ, zero, suc, pred, ◌+◌, ◌<◌, ◌≤◌, true, false, cond, eqb, List, [], ◌∷◌, length, get_or, take, drop, set, sym, refl, ap, ◌∙◌, subst, ⊎_elim, arith}
+use Rattle.std.proofs.Common.{◌≡◌, ℕ, zero, suc, pred, ◌+◌, ◌<◌, ◌≤◌, true, false, cond, eqb, List, [], ◌∷◌, length, get_or, take, drop, set, sym, refl, ap, ◌∙◌, subst, ⊎_elim, Some, Option, arith}
 use Rattle.std.proofs.lemmas.Bool.{cases_Bool, both_ways, eq-eqb, ne_eqb, cond-true, cond-false, and_from, and_left, and_right}
 use Rattle.layout.specs.Tokens.{Token, Text, Break, Opening, Ending, width, widths, opens, nest}
-use Rattle.stream.specs.declared.record.Extent.{Extent}
-use Rattle.stream.specs.declared.record.Extent.TheVariants.{Known}
 use Rattle.stream.specs.declared.record.Slot.{Slot}
 use Rattle.stream.specs.declared.record.Place.{Place}
 use Rattle.stream.specs.Recorded.{waiting, extent, slotted, deeper, place, waits}
@@ -70,7 +68,7 @@ place_at (suc c) k b d (t ∷ ts) l =
 
 -- a record whose size is known now
 abbrev pub sized : Slot → ℕ → Slot
-sized s n = record { token = s.token; extent = Known n }
+sized s n = record { token = s.token; size = Some n }
 
 -- settling waiting token c changes one record
 abbrev Steps : ℕ → List Token → List Slot → List Slot → ℕ → Type 0
@@ -78,17 +76,17 @@ Steps c h before now i = (s : Slot) → now ≡ set before i (sized (get_or befo
 
 mixed_later : (c : ℕ) (t : Token) (ts : List Token) → waiting t ts ≡ true → mixed (suc c) (t ∷ ts) ≡ slotted t (extent t ts) ∷ mixed c ts
 mixed_later c t ts w =
-    ap (λ (e : Extent). slotted t e ∷ mixed (cond (waiting t ts) c (suc c)) ts) (cond-false _ _ _ (and_right (waiting t ts) (eqb (suc c) 0) (ne_eqb (suc c) 0 (omega arith))))
+    ap (λ (e : Option ℕ). slotted t e ∷ mixed (cond (waiting t ts) c (suc c)) ts) (cond-false _ _ _ (and_right (waiting t ts) (eqb (suc c) 0) (ne_eqb (suc c) 0 (omega arith))))
     ∙ ap (λ (n : ℕ). slotted t (extent t ts) ∷ mixed n ts) (cond-true (waiting t ts) _ _ w)
 
-mixed_first : (t : Token) (ts : List Token) → waiting t ts ≡ true → mixed 0 (t ∷ ts) ≡ slotted t (Known (widths (t ∷ ts))) ∷ mixed 0 ts
+mixed_first : (t : Token) (ts : List Token) → waiting t ts ≡ true → mixed 0 (t ∷ ts) ≡ slotted t (Some (widths (t ∷ ts))) ∷ mixed 0 ts
 mixed_first t ts w =
-    ap (λ (e : Extent). slotted t e ∷ mixed (cond (waiting t ts) 0 0) ts) (cond-true _ _ _ (and_from _ _ w (eq-eqb 0 0 refl)))
-    ∙ ap (λ (n : ℕ). slotted t (Known (widths (t ∷ ts))) ∷ mixed n ts) (cond-true (waiting t ts) _ _ w)
+    ap (λ (e : Option ℕ). slotted t e ∷ mixed (cond (waiting t ts) 0 0) ts) (cond-true _ _ _ (and_from _ _ w (eq-eqb 0 0 refl)))
+    ∙ ap (λ (n : ℕ). slotted t (Some (widths (t ∷ ts))) ∷ mixed n ts) (cond-true (waiting t ts) _ _ w)
 
 mixed_past : (c : ℕ) (t : Token) (ts : List Token) → waiting t ts ≡ false → mixed c (t ∷ ts) ≡ slotted t (extent t ts) ∷ mixed c ts
 mixed_past c t ts w =
-    ap (λ (e : Extent). slotted t e ∷ mixed (cond (waiting t ts) (pred c) c) ts) (cond-false _ _ _ (and_left (waiting t ts) (eqb c 0) w))
+    ap (λ (e : Option ℕ). slotted t e ∷ mixed (cond (waiting t ts) (pred c) c) ts) (cond-false _ _ _ (and_left (waiting t ts) (eqb c 0) w))
     ∙ ap (λ (n : ℕ). slotted t (extent t ts) ∷ mixed n ts) (cond-false (waiting t ts) _ _ w)
 
 steps_cons : (c : ℕ) (t : Token) (ts : List Token) (x : Slot) (before now : List Slot) (before' now' : List Slot) (j i : ℕ) → i ≡ suc j → before' ≡ x ∷ before → now' ≡ x ∷ now → Steps c ts before now j → Steps c (t ∷ ts) before' now' i

@@ -1,11 +1,9 @@
 -- What becomes of records and places as a token comes.
-use Rattle.std.proofs.Common.{◌≡◌, ℕ, zero, suc, ◌+◌, ◌<◌, ◌≤◌, Bool, true, false, cond, not, ◌&&◌, ◌||◌, eqb, ltb, ◌⊎◌, List, [], ◌∷◌, ◌++◌, length, take, ℤ, sym, refl, ap, ◌∙◌, subst, inl, inr, ⊎_elim, arith}
+use Rattle.std.proofs.Common.{◌≡◌, ℕ, zero, suc, ◌+◌, ◌<◌, ◌≤◌, Bool, true, false, cond, not, ◌&&◌, ◌||◌, eqb, ltb, ◌⊎◌, List, [], ◌∷◌, ◌++◌, length, take, ℤ, sym, refl, ap, ◌∙◌, subst, inl, inr, ⊎_elim, Some, None, Option, arith}
 use Rattle.std.proofs.lemmas.Bool.{cases_Bool, eq-eqb, ne_eqb, cond-true, cond-false, and_from, and_left, and_right, or_left, or_right, or_cases, or_parts, not-true, not-false, not_from_true, lt-ltb, le-ltb}
 use Rattle.std.proofs.lemmas.Bool.Decides.{nat_tests}
 use Rattle.layout.specs.Tokens.{Token, Text, Break, Opening, Ending, width, widths, opens, reached, size, free, nest}
 use Rattle.layout.proofs.Passes.{reached_more, before_more}
-use Rattle.stream.specs.declared.record.Extent.{Extent}
-use Rattle.stream.specs.declared.record.Extent.TheVariants.{Known, Waiting}
 use Rattle.stream.specs.declared.record.Slot.{Slot}
 use Rattle.stream.specs.declared.record.Place.{Place}
 use Rattle.stream.specs.Recorded.{waiting, extent, slotted, recorded, deeper, place, waits}
@@ -22,14 +20,14 @@ waiting_from t ts f r = grind (arith, nat_tests)
 -- a settled token stays as it is
 settled_stays : (t : Token) (ts us : List Token) → waiting t ts ≡ false → (waiting t (ts ++ us) ≡ false) × (extent t (ts ++ us) ≡ extent t ts)
 settled_stays t ts us w =
-    let known : (xs : List Token) → waiting t xs ≡ false → extent t xs ≡ Known (cond (free t) 0 (size t xs)) = λ xs h. cond-false (waiting t xs) _ _ h in
+    let known : (xs : List Token) → waiting t xs ≡ false → extent t xs ≡ Some (cond (free t) 0 (size t xs)) = λ xs h. cond-false (waiting t xs) _ _ h in
     ⊎_elim
     (λ f. let q : waiting t (ts ++ us) ≡ false = not_from_true _ (or_left (free t) _ f) in
     let same : cond (free t) 0 (size t (ts ++ us)) ≡ cond (free t) 0 (size t ts) = cond-true (free t) _ _ f ∙ sym (cond-true (free t) _ _ f) in
-    (q, known (ts ++ us) q ∙ (ap Known same ∙ sym (known ts w))))
+    (q, known (ts ++ us) q ∙ (ap Some same ∙ sym (known ts w))))
     (λ r. let q : waiting t (ts ++ us) ≡ false = not_from_true _ (or_right (free t) _ (reached_more (opens t) ts us r)) in
     let same : cond (free t) 0 (size t (ts ++ us)) ≡ cond (free t) 0 (size t ts) = ap (λ (k : ℕ). cond (free t) 0 (width t + k)) (before_more (opens t) ts us r) in
-    (q, known (ts ++ us) q ∙ (ap Known same ∙ sym (known ts w))))
+    (q, known (ts ++ us) q ∙ (ap Some same ∙ sym (known ts w))))
     (or_cases (free t) (reached (opens t) ts) (not-false _ w))
 
 -- a token that is no Break settles nothing
@@ -46,7 +44,7 @@ extent_quiet t ts x q =
 pub recorded_quiet : (h : List Token) (x : Token) → quiet x ≡ true → recorded (h ++ x ∷ []) ≡ recorded h ++ slotted x (extent x []) ∷ []
 recorded_quiet [] x q = refl
 recorded_quiet (t ∷ ts) x q =
-    ap (λ (e : Extent). slotted t e ∷ recorded (ts ++ x ∷ [])) (extent_quiet t ts x q) ∙ ap (λ (ss : List Slot). slotted t (extent t ts) ∷ ss) (recorded_quiet ts x q)
+    ap (λ (e : Option ℕ). slotted t e ∷ recorded (ts ++ x ∷ [])) (extent_quiet t ts x q) ∙ ap (λ (ss : List Slot). slotted t (extent t ts) ∷ ss) (recorded_quiet ts x q)
 
 -- the places that a last token brings
 abbrev pub own : ℕ → ℕ → ℕ → Token → List Place
@@ -160,7 +158,7 @@ pub mixed_all : (c k b d : ℕ) (h : List Token) → length (waits k b d h) ≤ 
 mixed_all c k b d [] l = refl
 mixed_all c k b d (t ∷ ts) l =
     let rest = waits (suc k) (b + width t) (deeper d t) ts in
-    let both : (e : Extent) (c' : ℕ) → e ≡ extent t ts → length rest ≤ c' → slotted t e ∷ mixed c' ts ≡ recorded (t ∷ ts) = λ e c' p q. ap (λ (x : Extent). slotted t x ∷ mixed c' ts) p ∙ ap (λ (ss : List Slot). slotted t (extent t ts) ∷ ss) (mixed_all c' (suc k) (b + width t) (deeper d t) ts q) in
+    let both : (e : Option ℕ) (c' : ℕ) → e ≡ extent t ts → length rest ≤ c' → slotted t e ∷ mixed c' ts ≡ recorded (t ∷ ts) = λ e c' p q. ap (λ (x : Option ℕ). slotted t x ∷ mixed c' ts) p ∙ ap (λ (ss : List Slot). slotted t (extent t ts) ∷ ss) (mixed_all c' (suc k) (b + width t) (deeper d t) ts q) in
     ⊎_elim
     (λ w. let m : length (place k b d ∷ rest) ≤ c = subst (λ (ps : List Place). length ps ≤ c) (cond-true (waiting t ts) _ _ w) l in
     both _ _ (cond-false _ _ _ (and_right (waiting t ts) (eqb c 0) (ne_eqb c 0 (omega arith)))) (subst (λ (n : ℕ). length rest ≤ n) (sym (cond-true (waiting t ts) _ _ w)) (omega arith)))
@@ -169,19 +167,19 @@ mixed_all c k b d (t ∷ ts) l =
     (cases_Bool (waiting t ts))
 
 -- with all settled that a Break settles, they stand for the tokens with that Break
-pub mixed_break : (h : List Token) (n : ℕ) (o : ℤ) → mixed (keeps h) h ++ slotted (Break n o) Waiting ∷ [] ≡ recorded (h ++ Break n o ∷ [])
+pub mixed_break : (h : List Token) (n : ℕ) (o : ℤ) → mixed (keeps h) h ++ slotted (Break n o) None ∷ [] ≡ recorded (h ++ Break n o ∷ [])
 mixed_break [] n o = refl
 mixed_break (t ∷ ts) n o =
     let x = Break n o in
-    let last = slotted x Waiting ∷ [] in
-    let both : (e : Extent) (c' : ℕ) → e ≡ extent t (ts ++ x ∷ []) → c' ≡ keeps ts → slotted t e ∷ (mixed c' ts ++ last) ≡ recorded (t ∷ (ts ++ x ∷ [])) = λ e c' p q. ap (λ (y : Extent). slotted t y ∷ (mixed c' ts ++ last)) p ∙ (ap (λ (y : ℕ). slotted t (extent t (ts ++ x ∷ [])) ∷ (mixed y ts ++ last)) q ∙ ap (λ (ss : List Slot). slotted t (extent t (ts ++ x ∷ [])) ∷ ss) (mixed_break ts n o)) in
+    let last = slotted x None ∷ [] in
+    let both : (e : Option ℕ) (c' : ℕ) → e ≡ extent t (ts ++ x ∷ []) → c' ≡ keeps ts → slotted t e ∷ (mixed c' ts ++ last) ≡ recorded (t ∷ (ts ++ x ∷ [])) = λ e c' p q. ap (λ (y : Option ℕ). slotted t y ∷ (mixed c' ts ++ last)) p ∙ (ap (λ (y : ℕ). slotted t (extent t (ts ++ x ∷ [])) ∷ (mixed y ts ++ last)) q ∙ ap (λ (ss : List Slot). slotted t (extent t (ts ++ x ∷ [])) ∷ ss) (mixed_break ts n o)) in
     let c = keeps (t ∷ ts) in
     ⊎_elim
     (λ w. ⊎_elim
     (λ z. let p = waiting_true t ts w in
     let none = none_kept ts (let l = nest_rest t ts in let s = nest_step t ts w in omega arith) in
     let off = keeps_off t ts z in
-    let known : extent t (ts ++ x ∷ []) ≡ Known (widths (t ∷ ts)) = cond-false (waiting t (ts ++ x ∷ [])) _ _ (break_settles t ts n o z) ∙ ap Known (cond-false (free t) _ _ p.0 ∙ ap (λ (k : ℕ). width t + k) (before_break (opens t) ts n o p.1 z)) in
+    let known : extent t (ts ++ x ∷ []) ≡ Some (widths (t ∷ ts)) = cond-false (waiting t (ts ++ x ∷ [])) _ _ (break_settles t ts n o z) ∙ ap Some (cond-false (free t) _ _ p.0 ∙ ap (λ (k : ℕ). width t + k) (before_break (opens t) ts n o p.1 z)) in
     both _ _ (cond-true _ _ _ (and_from _ _ w (eq-eqb c 0 (omega arith))) ∙ sym known) (cond-true (waiting t ts) _ _ w ∙ (omega arith)))
     (λ q. let e = keeps_on t ts w q in
     both _ _ (cond-false _ _ _ (and_right (waiting t ts) (eqb c 0) (ne_eqb c 0 (omega arith))) ∙ (cond-true (waiting t ts) _ _ w ∙ sym (cond-true (waiting t (ts ++ x ∷ [])) _ _ (break_keeps t ts n o w q)))) (cond-true (waiting t ts) _ _ w ∙ (omega arith)))

@@ -1,18 +1,16 @@
 -- Which records and places stand for the tokens that are held back.
-use Rattle.std.specs.Prelude.{ℕ, suc, pred, ◌+◌, ◌%◌, ◌≤◌, Bool, cond, not, ◌||◌, List, [], ◌∷◌, ◌++◌, length}
+use Rattle.std.specs.Prelude.{ℕ, suc, pred, ◌+◌, ◌%◌, ◌≤◌, Bool, cond, not, ◌||◌, List, [], ◌∷◌, ◌++◌, length, Some, None, Option}
 use Rattle.layout.specs.Tokens.{Token, Text, Break, Opening, Ending, width, opens, reached, size, free}
-use Rattle.stream.specs.declared.record.Held.{Held}
-use Rattle.stream.specs.declared.record.Held.TheVariants.{Text as TextHeld, Break as BreakHeld, Opening as OpeningHeld, Ending as EndingHeld}
-use Rattle.stream.specs.declared.record.Extent.{Extent}
-use Rattle.stream.specs.declared.record.Extent.TheVariants.{Known, Waiting}
+use Rattle.layout.specs.declared.token.Token.{Token as Held}
+use Rattle.layout.specs.declared.token.Token.TheVariants.{Text as TextHeld, Break as BreakHeld, Opening as OpeningHeld, Ending as EndingHeld}
 use Rattle.stream.specs.declared.record.Slot.{Slot}
 use Rattle.stream.specs.declared.record.Place.{Place}
 
 -- a token without the bytes of its Text
-abbrev pub shape : Token → Held
+abbrev pub shape : Token → Held ℕ
 shape (Text bytes) = TextHeld (length bytes)
-shape (Break blanks offset) = BreakHeld blanks offset
-shape (Opening offset fold anchor) = OpeningHeld offset fold anchor
+shape (Break blanks offset) = BreakHeld (record { blanks = blanks; offset = offset })
+shape (Opening offset fold anchor) = OpeningHeld (record { offset = offset; fold = fold; anchor = anchor })
 shape Ending = EndingHeld
 
 -- does the token, followed by `ts`, wait for its reach?
@@ -20,12 +18,12 @@ abbrev pub waiting : Token → List Token → Bool
 waiting t ts = not (free t || reached (opens t) ts)
 
 -- what is known of its size; nothing is asked of a free token's
-abbrev pub extent : Token → List Token → Extent
-extent t ts = cond (waiting t ts) Waiting (Known (cond (free t) 0 (size t ts)))
+abbrev pub extent : Token → List Token → Option ℕ
+extent t ts = cond (waiting t ts) None (Some (cond (free t) 0 (size t ts)))
 
 -- the record of a token
-abbrev pub slotted : Token → Extent → Slot
-slotted t e = record { token = shape t; extent = e }
+abbrev pub slotted : Token → Option ℕ → Slot
+slotted t e = record { token = shape t; size = e }
 
 -- the records of tokens
 abbrev pub recorded : List Token → List Slot

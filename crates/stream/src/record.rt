@@ -1,38 +1,19 @@
 // The elements of the printer's queues.
-use layout::token::{Anchor, Fold};
+use layout::token::Token;
 
 // A token that is held back: a Text by its length.
-#[derive(Clone, Copy)]
-pub enum Held {
-    Text(u16),
-    Break {
-        blanks: u8,
-        offset: i8,
-    },
-    Opening {
-        offset: i8,
-        fold: Fold,
-        anchor: Anchor,
-    },
-    Ending,
-}
+pub type Held = Token<u16>;
 
-// The size of an Opening or a Break, once its reach has come.
-#[derive(Clone, Copy)]
-pub enum Extent {
-    Known(u16),
-    Waiting,
-}
-
-#[derive(Clone, Copy)]
+// The record of a token, with its size; none while an Opening or a Break waits for its reach.
+#[derive(Clone, Copy, PartialEq, Eq, Debug)]
 pub struct Slot {
     pub token: Held,
-    pub extent: Extent,
+    pub size: Option<u16>,
 }
 
 // An Opening or a Break that waits for its reach: its token number and the widths of all tokens
 // before it, both modulo 2^16, and the blocks open before it.
-#[derive(Clone, Copy)]
+#[derive(Clone, Copy, Default, PartialEq, Eq, Debug)]
 pub struct Place {
     pub serial: u16,
     pub since: u16,
