@@ -160,7 +160,8 @@ impl<T: Copy, const N: usize> Queue<T, N> {
 
     // The element that has `i` others before it.
     pub fn get(&self, i: usize) -> Option<T>
-        ensures { result ≡ slice_get self.now i }
+        ensures value { result ≡ slice_get self.now i }
+        ensures within { length self.now ≤ N }
     {
         if i >= self.len {
             return None;

@@ -1,3 +1,2 @@
 pub mod Comes
 pub mod Settled
-pub mod Goes

@@ -1,6 +1,5 @@
 -- Which tokens the queues hold.
 use Rattle.std.specs.Prelude.{◌≡◌, ℕ, ◌+◌, ◌<◌, ◌≤◌, List, length, take}
-use Rattle.queue.specs.Held.{held}
 use Rattle.layout.specs.Tokens.{Token, widths, nest}
 use Rattle.stream.specs.Recorded.{recorded, texts, waits, wrapped}
 use Rattle.stream.specs.Settling.{keeps, mixed}
@@ -11,7 +10,7 @@ pub record Counts (k b d : ℕ) (h : List Token) (s : Scan) : Type 0 where
   pub serial : s.serial ≡ wrapped k
   pub gone : s.base ≡ wrapped b
   pub total : s.total ≡ wrapped (b + widths h)
-  pub texts : held s.texts s.text_ring ≡ texts h
+  pub texts : s.texts ≡ texts h
   pub depth : s.depth ≡ nest d h
   pub room : widths h < 65536
 
@@ -19,13 +18,13 @@ pub record Counts (k b d : ℕ) (h : List Token) (s : Scan) : Type 0 where
 pub record Holds (k d : ℕ) (h : List Token) (s : Scan) : Type 0 where
   pub base : ℕ
   pub counts : Counts k base d h s
-  pub slots : held s.slots s.slot_ring ≡ recorded h
-  pub places : held s.places s.place_ring ≡ waits k base d h
+  pub slots : s.slots ≡ recorded h
+  pub places : s.places ≡ waits k base d h
 
 -- the same while a Break settles sizes, from the last waiting token on: c are left waiting
 pub record Settling (k b d : ℕ) (h : List Token) (c : ℕ) (s : Scan) : Type 0 where
   pub counts : Counts k b d h s
-  pub slots : held s.slots s.slot_ring ≡ mixed c h
-  pub places : held s.places s.place_ring ≡ take c (waits k b d h)
+  pub slots : s.slots ≡ mixed c h
+  pub places : s.places ≡ take c (waits k b d h)
   pub most : c ≤ length (waits k b d h)
   pub least : keeps h ≤ c

@@ -1,14 +1,15 @@
-use Rattle.std.proofs.Common.{ℕ, refl, subst}
+use Rattle.std.proofs.Common.{ℕ, length, subst, arith}
+use Rattle.std.proofs.lemmas.Grind.{common_steps}
+use Rattle.stream.specs.Recorded.{waits}
+use Rattle.stream.proofs.Settles.{mixed_all}
 use Rattle.scan.specs.Holding.{Settling}
-use Rattle.scan.proofs.Comes.{settling_starts}
 use Rattle.scan.proofs.Settled.{keeps_waits}
 use Rattle.scan.proofs.scan.Scan.settle.Goals as goal
 
 pub loop-init : goal.loop-init
-loop-init c = λ k d h hold. (hold.base, _, settling_starts k d h _ hold (keeps_waits k hold.base d h))
-
-pub loop-smaller : goal.loop-smaller
-loop-smaller c = c.loop-test.ensures.fewer refl
+loop-init c = λ k d h hold.
+    let n = length (waits k hold.base d h) in
+    (hold.base, n, record { counts = hold.counts; slots = grind (arith, mixed_all n k hold.base d h, hold.slots); places = grind (arith, common_steps, hold.places); most = omega arith; least = keeps_waits k hold.base d h })
 
 pub loop-preserved : goal.loop-preserved
 loop-preserved c = λ k d h hold.
