@@ -5,13 +5,10 @@ ghost use Rattle.std.specs.Prelude.{◌≡◌, ℕ, List, [], ◌∷◌, ◌++�
 ghost use Rattle.sink.specs.Rule.{Rule, Laws, Taken, Barred, told};
 
 use crate::fault::Refusal;
-use crate::kind::KindNumber;
 
 pub trait Sink {
-    // the sink's kind, whose number its own refusals carry
-    type Kind: KindNumber + Drop;
-
-    const KIND: Self::Kind;
+    // the sink's kind, which its own refusals carry: a number, since a sink elsewhere has a kind of its own
+    ghost kind: { ℕ };
 
     // the text held
     ghost text: { Self → List ℕ };
@@ -22,8 +19,9 @@ pub trait Sink {
     // what every change of a sink keeps: it holds between a sink and what becomes of it
     ghost later: { Self → Self → Type 0 };
 
-    // the proof of the laws of text, rule and later
-    ghost laws: { Laws text rule later };
+    // The kind: a function, since a constant is not proved to be the ghost member at a type with a lifetime, as a window.
+    fn kind() -> u8
+        ensures { result ≡ kind };
 
     // The length of the text.
     fn len(&self) -> usize
@@ -31,7 +29,9 @@ pub trait Sink {
 
     // Adds a byte to the text, or refuses it and changes nothing.
     fn put(&mut self, byte: u8) -> Result<(), Refusal>
-        ensures rule { rule self.new ≡ rule self.old }
         ensures later { later self.old self.new }
-        ensures cases { MatchResult result (λ _. Taken (rule self.old).admits (text self.old) byte (text self.new)) (λ e. Barred (rule self.old).admits (text self.old) byte × (self.new ≡ self.old) × (told Self.Kind.KindNumber.number e ≡ (rule self.old).reason (text self.old ++ byte ∷ []))) };
+        ensures cases { MatchResult result (λ _. Taken (rule self.old).admits (text self.old) byte (text self.new)) (λ e. Barred (rule self.old).admits (text self.old) byte × (self.new ≡ self.old) × (told kind e ≡ (rule self.old).reason (text self.old ++ byte ∷ []))) };
+
+    // the laws of text, rule and later
+    ghost laws: { Laws text rule later };
 }
