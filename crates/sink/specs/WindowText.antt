@@ -1,4 +1,4 @@
--- What a window means. The definitions are total: a window whose len is past its room is read as full.
+-- What a window means.
 use Rattle.std.specs.Prelude.{◌≡◌, ℕ, min, List, length, take, drop, nat_le}
 use Rattle.sink.specs.declared.window.Window.{Window}
 use Rattle.sink.specs.Begins.{Begins}
@@ -10,7 +10,7 @@ room buffer = min (length buffer) 32768
 
 -- The text in front of a buffer.
 abbrev pub text_in : List ℕ → ℕ → List ℕ
-text_in buffer len = take (min len (room buffer)) buffer
+text_in buffer len = take len buffer
 
 -- The text that a window holds.
 abbrev pub text_of : Window → List ℕ

@@ -1,22 +1,21 @@
 // Window, the sink of kind 1: a text in front of a lent buffer. It uses at most the first 32,768 bytes of the buffer and admits the texts
 // that fit; the bytes past the text keep their old contents. The lender gets the buffer back, with the text in front.
 
-ghost use Rattle.std.specs.Prelude.{◌≡◌, min, [], length, take};
-ghost use Rattle.sink.specs.WindowText.{room, text_of, rule_of, Later};
-ghost use Rattle.sink.specs.WindowLaws.{window_laws};
+ghost use Rattle.std.specs.Prelude.{◌≡◌, ◌≤◌, [], length, take};
 
 use crate::fault::{FULL, Refusal};
-use crate::kind::Kind;
 use crate::sink::Sink;
 
 // The most bytes of a buffer that a window uses.
 pub const MOST: usize = 32_768;
 
-// The text is the first `len` bytes of the buffer.
+// The text is the first `len` bytes of the buffer. The two stay apart, here and in `Filled`: the buffer is lent, and its lender gets it back whole.
 #[derive(Drop)]
 pub struct Window<'a> {
     buffer: &'a mut [u8],
     len: usize,
+    ghost within: { len ≤ length buffer.now },
+    ghost most: { len ≤ 32768 },
 }
 
 // A buffer that its lender has back, with a text of `len` bytes in front.
@@ -27,6 +26,8 @@ pub struct Filled<'a> {
 }
 
 impl<'a> Window<'a> {
+    ghost use Rattle.sink.specs.WindowText.{room, text_of};
+
     // A window over a buffer, with no text.
     pub fn new(buffer: &'a mut [u8]) -> Window<'a>
         ensures loan { result.buffer.ghost_name ≡ buffer.entry.ghost_name }
@@ -44,18 +45,11 @@ impl<'a> Window<'a> {
         self.buffer.len().min(MOST)
     }
 
-    // How many bytes hold the text.
-    fn used(&self) -> usize
-        ensures { result ≡ min self.now.len (room self.now.buffer.now) }
-    {
-        self.len.min(self.room())
-    }
-
     // The text.
     pub fn text(&self) -> &[u8]
         ensures { result.now ≡ text_of self.now }
     {
-        &self.buffer[0..self.used()]
+        &self.buffer[..self.len]
     }
 
     // The buffer, with the text in front. A function that is lent a buffer and returns this tells its caller what the buffer holds.
@@ -65,16 +59,17 @@ impl<'a> Window<'a> {
         ensures len { result.len ≡ length (text_of self.entry) }
         ensures text { take result.len result.buffer.now ≡ text_of self.entry }
     {
-        let end = self.used();
-        let Window { buffer, len: _ } = self;
-        Filled { buffer, len: end }
+        let Window { buffer, len } = self;
+        Filled { buffer, len }
     }
 }
 
 impl Sink for Window<'_> {
-    type Kind = Kind<1>;
+    ghost use Rattle.std.specs.Prelude.{◌≡◌};
+    ghost use Rattle.sink.specs.WindowText.{text_of, rule_of, Later};
+    ghost use Rattle.sink.specs.WindowLaws.{window_laws};
 
-    const KIND: Kind<1> = Kind;
+    ghost kind = { 1 };
 
     ghost text = { text_of };
 
@@ -84,8 +79,15 @@ impl Sink for Window<'_> {
 
     ghost laws = { window_laws };
 
+    // At a type with a lifetime the clause is not taken from the trait.
+    fn kind() -> u8
+        ensures { result ≡ 1 }
+    {
+        1
+    }
+
     fn len(&self) -> usize {
-        self.used()
+        self.len
     }
 
     fn put(&mut self, byte: u8) -> Result<(), Refusal> {
