@@ -1,27 +1,123 @@
 -- A byte put into a slip.
-use Rattle.std.proofs.Common.{◌≡◌, ℕ, zero, suc, ◌+◌, ◌*◌, ◌<◌, ◌≤◌, max, true, false, cond, eqb, List, [], ◌∷◌, ◌++◌, map, length, get_or, take, set, sym, ap, ◌∙◌, add-one, arith}
-use Rattle.std.proofs.lemmas.List.{append_assoc, get_or-map, get_or-take, length-map, length_push, length-take, map_push, take_more, take_more_set}
-use Rattle.std.proofs.lemmas.Bool.{ne_eqb}
-use Rattle.lines.specs.Lines.{newlines, widest_from, widest, lines, longest}
+use Rattle.std.proofs.Common.{◌≡◌, ℕ, suc, ◌+◌, ◌*◌, ◌<◌, ◌≤◌, max, true, false, cond, eqb, List, [], ◌∷◌, ◌++◌, map, length, get_or, take, set, sym, refl, ap, ◌∙◌, arith}
+use Rattle.std.proofs.Props.{props}
+use mathlib.Core.HLevel.{is_prop→PathP}
+use Rattle.std.specs.List.{join_with_byte}
+use Rattle.std.proofs.lemmas.List.{append_assoc, append-nil, length-map, length_push, length-set, map_push, set-get_or, take_all, take_more, take_more_set}
+use Rattle.std.proofs.lemmas.Bool.{eqb-true, ne_eqb}
+use Rattle.lines.specs.Lines.{newlines, widest_from, widest, lines_from, lines, longest}
 use Rattle.lines.proofs.Splits.{lines_byte, lines_count, lines_newline, lines_widest, longest_push}
-use Rattle.sink.specs.declared.row.Row.{Row}
+use Rattle.arrayvec.specs.ArrayVec.{ArrayVec, with_items}
+use Rattle.arrayvec.proofs.ArrayVecLemmas.{items-with_items}
 use Rattle.sink.specs.declared.slip.Slip.{Slip}
 use Rattle.sink.specs.Fits.{fits_by, fits_slip, over_across, over_down}
 use Rattle.sink.specs.Rows.{line, text_on}
-use Rattle.sink.specs.SlipLaws.{newlines_above, text_of}
+use Rattle.sink.specs.SlipLaws.{newlines_rows, text_of}
 
--- One more row, with nothing on it.
-pub text_row : (rows : List Row) (at : ℕ) (e : Row) → suc at < length rows → line e ≡ [] → text_on (set rows (suc at) e) (suc at) ≡ text_on rows at ++ 10 ∷ []
-text_row [] at e less none = absurd (omega arith)
-text_row (r ∷ []) at e less none = absurd (omega arith)
-text_row (r ∷ q ∷ rows) zero e less none = rw none
-text_row (r ∷ q ∷ rows) (suc at) e less none = ap (λ (zs : List ℕ). line r ++ 10 ∷ zs) (text_row (q ∷ rows) at e (omega arith) none) ∙ sym (append_assoc (line r) (10 ∷ text_on (q ∷ rows) at) (10 ∷ []))
+-- Slips with the same rows and the same length are the same.
+pub same_slip : (s t : Slip) → s.rows ≡ t.rows → s.len ≡ t.len → s ≡ t
+same_slip s t p q =
+    λ i. record {
+      rows = p i;
+      len = q i;
+      some = is_prop→PathP (λ j. 0 < length (p j).items) (λ j. hlevel props) s.some t.some i;
+      few = is_prop→PathP (λ j. length (p j).items ≤ 16) (λ j. hlevel props) s.few t.few i;
+      split = is_prop→PathP (λ j. lines (text_on (p j).items) ≡ map line (p j).items) (λ j. hlevel props) s.split t.split i;
+      narrow = is_prop→PathP (λ j. widest (text_on (p j).items) ≤ 40) (λ j. hlevel props) s.narrow t.narrow i;
+      size = is_prop→PathP (λ j. length (text_on (p j).items) ≡ q j) (λ j. hlevel props) s.size t.size i;
+    }
 
--- One more byte on the last row.
-pub text_cell : (rows : List Row) (at : ℕ) (r d : Row) (b : ℕ) → at < length rows → line r ≡ line (get_or rows at d) ++ b ∷ [] → text_on (set rows at r) at ≡ text_on rows at ++ b ∷ []
-text_cell [] at r d b less e = absurd (omega arith)
-text_cell (q ∷ rows) zero r d b less e = e
-text_cell (q ∷ rows) (suc at) r d b less e = rw (text_cell rows at r d b (omega arith) e, append_assoc)
+-- The lines of a text, joined by newlines, are the text.
+join_more : (l : List ℕ) (ls : List (List ℕ)) → 0 < length ls → join_with_byte 10 (l ∷ ls) ≡ l ++ 10 ∷ join_with_byte 10 ls
+join_more l [] some = absurd (omega arith)
+join_more l (k ∷ ls) some = refl
+
+joined_lines : (begun xs : List ℕ) → join_with_byte 10 (lines_from begun xs) ≡ begun ++ xs
+joined_lines begun [] = sym (append-nil begun)
+joined_lines begun (x ∷ xs) =
+    elim (eqb x 10) as (λ t. eqb x 10 ≡ t → join_with_byte 10 (cond t (begun ∷ lines_from [] xs) (lines_from (begun ++ x ∷ []) xs)) ≡ begun ++ x ∷ xs) [
+      | true ↦ (λ e. join_more begun (lines_from [] xs) (omega (arith, lines_count [] xs)) ∙ rw (joined_lines [] xs, eqb-true x 10 e))
+      | false ↦ (λ e. joined_lines (begun ++ x ∷ []) xs ∙ append_assoc begun (x ∷ []) xs)
+    ] refl
+
+-- What rows hold after a byte b was put into a slip s.
+pub record Grown (s : Slip) (b : ℕ) (rows : List (ArrayVec ℕ)) : Type 0 where
+  pub text : text_on rows ≡ text_of s ++ b ∷ []
+  pub fits : fits_slip (text_of s ++ b ∷ []) ≡ true
+  pub some : 0 < length rows
+  pub few : length rows ≤ 16
+  pub split : lines (text_on rows) ≡ map line rows
+  pub narrow : widest (text_on rows) ≤ 40
+  pub size : length (text_on rows) ≡ s.len + 1
+
+-- They hold it if their lines are those of the text with the byte, and within the limits.
+grown : (s : Slip) (b : ℕ) (rows : List (ArrayVec ℕ)) → lines (text_of s ++ b ∷ []) ≡ map line rows → length rows ≤ 16 → longest (map line rows) ≤ 40 → Grown s b rows
+grown s b rows split few narrow =
+    let more = text_of s ++ b ∷ [] in
+    let text : text_on rows ≡ more = sym (ap (join_with_byte 10) split) ∙ joined_lines [] more in
+    let count : newlines more + 1 ≡ length rows = omega (arith, lines_count [] more, ap length split, length-map rows line) in
+    let wide : widest more ≤ 40 = omega (arith, lines_widest [] more, ap longest split) in
+    record {
+      text = text;
+      fits = fits_by more (omega arith) wide;
+      some = omega arith;
+      few = few;
+      split = ap lines text ∙ split;
+      narrow = rw text wide;
+      size = omega (arith, ap length text, length_push (text_of s) b, s.size);
+    }
+
+-- A newline b.
+module _ (s : Slip) (b : ℕ) (newline : b ≡ 10) where
+  newline_lines : lines (text_of s ++ b ∷ []) ≡ lines (text_of s) ++ [] ∷ []
+  newline_lines = rw newline (lines_newline [] (text_of s))
+
+  -- It starts the next row.
+  pub newline_grown : (e : ArrayVec ℕ) → line e ≡ [] → length s.rows.items < 16 → Grown s b (s.rows.items ++ e ∷ [])
+  newline_grown e none room =
+      let begun : map line s.rows.items ++ [] ∷ [] ≡ map line (s.rows.items ++ e ∷ []) = rw (← none) (sym (map_push line s.rows.items e)) in
+      let split = newline_lines ∙ ap (λ (ls : List (List ℕ)). ls ++ [] ∷ []) s.split ∙ begun in
+      grown s b _ split (omega (arith, length_push s.rows.items e)) (omega (arith, ap longest begun, longest_push (map line s.rows.items) [], ap longest s.split, lines_widest [] (text_of s), s.narrow))
+
+  -- Behind the last row there is none.
+  pub newline_over : length s.rows.items ≡ 16 → fits_slip (text_of s ++ b ∷ []) ≡ false
+  newline_over full =
+      over_down (text_of s ++ b ∷ []) (omega (arith, lines_count [] (text_of s ++ b ∷ []), ap length newline_lines, length_push (lines (text_of s)) [], lines_count [] (text_of s), newlines_rows s))
+
+-- Rows written back as they were are the rows.
+pub same_rows : (rows : ArrayVec (ArrayVec ℕ)) (xs : List (ArrayVec ℕ)) (n : ℕ) (r d : ArrayVec ℕ) → xs ≡ rows.items → r ≡ get_or xs n d → with_items rows (set xs n r) ≡ rows
+same_rows rows xs n r d e f =
+    let p : (with_items rows (set xs n r)).items ≡ rows.items = items-with_items rows (set xs n r) (omega (arith, length-set xs n r, ap length e)) ∙ ap (set xs n) f ∙ set-get_or xs n d ∙ e in
+    λ i. record { items = p i }
+
+-- Another byte b, behind the line of the last of n + 1 rows.
+module _ (s : Slip) (b : ℕ) (other : b ≡ 10 → ⊥) (xs : List (ArrayVec ℕ)) (e : xs ≡ s.rows.items) (n : ℕ) (count : length xs ≡ n + 1) (d : ArrayVec ℕ) where
+  abbrev above : List (List ℕ)
+  above = map line (take n xs)
+
+  abbrev last : List ℕ
+  last = line (get_or xs n d)
+
+  inside : n < length xs
+  inside = omega (arith, count)
+
+  split_last : lines (text_of s) ≡ above ++ last ∷ []
+  split_last = s.split ∙ ap (map line) (sym e ∙ sym (take_all (n + 1) xs (omega (arith, count))) ∙ take_more xs n d inside) ∙ map_push line (take n xs) (get_or xs n d)
+
+  byte_lines : lines (text_of s ++ b ∷ []) ≡ above ++ (last ++ b ∷ []) ∷ []
+  byte_lines = lines_byte b (ne_eqb b 10 other) (text_of s) above last split_last
+
+  pub byte_over : length last ≡ 40 → fits_slip (text_of s ++ b ∷ []) ≡ false
+  byte_over full =
+      over_across (text_of s ++ b ∷ []) (omega (arith, lines_widest [] (text_of s ++ b ∷ []), ap longest byte_lines, longest_push above (last ++ b ∷ []), length_push last b))
+
+  pub byte_grown : (r : ArrayVec ℕ) → line r ≡ last ++ b ∷ [] → length last < 40 → Grown s b (with_items s.rows (set xs n r)).items
+  byte_grown r f room =
+      let back : (with_items s.rows (set xs n r)).items ≡ set xs n r = items-with_items s.rows (set xs n r) (omega (arith, length-set xs n r, ap length e)) in
+      let now : map line (set xs n r) ≡ above ++ (last ++ b ∷ []) ∷ [] = ap (map line) (sym (take_all (n + 1) (set xs n r) (omega (arith, count, length-set xs n r))) ∙ take_more_set xs n r inside) ∙ map_push line (take n xs) r ∙ rw f in
+      let wide = lines_widest [] (text_of s) in
+      let narrow : longest (map line (set xs n r)) ≤ 40 = omega (arith, ap longest now, longest_push above (last ++ b ∷ []), length_push last b, ap longest split_last, longest_push above last, s.narrow) in
+      rw back (grown s b _ (byte_lines ∙ sym now) (omega (arith, length-set xs n r, ap length e, s.few)) narrow)
 
 -- A text of narrow lines is short.
 short : (c : ℕ) (xs : List ℕ) → widest_from c xs ≤ 40 → c + length xs ≤ 41 * newlines xs + 40
@@ -32,92 +128,4 @@ short c (x ∷ xs) =
 
 -- So the length may grow.
 pub len_most : (s : Slip) → s.len ≤ 655
-len_most s = omega (arith, s.row, s.size, short 0 (text_of s) s.narrow, newlines_above s.rows s.at s.split)
-
--- What rows up to the one at `at` hold after a byte b was put into a slip s.
-pub record Holds (s : Slip) (b : ℕ) (rows : List Row) (at : ℕ) : Type 0 where
-  pub text : text_on rows at ≡ text_of s ++ b ∷ []
-  pub fits : fits_slip (text_of s ++ b ∷ []) ≡ true
-  pub split : lines (text_on rows at) ≡ map line (take (at + 1) rows)
-  pub narrow : widest (text_on rows at) ≤ 40
-  pub size : length (text_on rows at) ≡ s.len + 1
-
--- They hold it if the text, the split and the limits are right.
-holds : (s : Slip) (b : ℕ) (rows : List Row) (at : ℕ) → text_on rows at ≡ text_of s ++ b ∷ [] → lines (text_of s ++ b ∷ []) ≡ map line (take (at + 1) rows) → newlines (text_of s ++ b ∷ []) ≤ 15 → widest (text_of s ++ b ∷ []) ≤ 40 → Holds s b rows at
-holds s b rows at text split few narrow =
-    record {
-      text = text;
-      fits = fits_by (text_of s ++ b ∷ []) few narrow;
-      split = ap lines text ∙ split;
-      narrow = rw text narrow;
-      size = omega (arith, ap length text, length_push (text_of s) b, s.size);
-    }
-
-module _ (s : Slip) (long : length s.rows ≡ 16) where
-  inside : s.at < length s.rows
-  inside = omega (arith, s.row)
-
-  -- How many lines there are.
-  pub lines_size : length (lines (text_of s)) ≡ s.at + 1
-  lines_size = omega (arith, inside, ap length s.split, length-map (take (s.at + 1) s.rows) line, length-take (s.at + 1) s.rows)
-
-  -- Each is its row's.
-  pub line_at : (i : ℕ) (d : Row) → i ≤ s.at → get_or (lines (text_of s)) i [] ≡ line (get_or s.rows i d)
-  line_at i d upto =
-      let less : i < s.at + 1 = omega arith in
-      let below : i < length (take (s.at + 1) s.rows) = omega (arith, inside, length-take (s.at + 1) s.rows) in
-      ap (λ (ls : List (List ℕ)). get_or ls i []) s.split ∙ get_or-map line (take (s.at + 1) s.rows) i d [] below ∙ ap line (get_or-take (s.at + 1) s.rows i d less)
-
-  -- A newline b.
-  module _ (b : ℕ) (newline : b ≡ 10) where
-    newline_lines : lines (text_of s ++ b ∷ []) ≡ lines (text_of s) ++ [] ∷ []
-    newline_lines = rw newline (lines_newline [] (text_of s))
-
-    newline_count : newlines (text_of s ++ b ∷ []) ≡ s.at + 1
-    newline_count = omega (arith, lines_count [] (text_of s ++ b ∷ []), ap length newline_lines, length_push (lines (text_of s)) [], lines_size)
-
-    newline_widest : widest (text_of s ++ b ∷ []) ≡ widest (text_of s)
-    newline_widest = omega (arith, lines_widest [] (text_of s ++ b ∷ []), ap longest newline_lines, longest_push (lines (text_of s)) [], lines_widest [] (text_of s))
-
-    pub newline_over : 16 ≤ s.at + 1 → fits_slip (text_of s ++ b ∷ []) ≡ false
-    newline_over last = over_down (text_of s ++ b ∷ []) (omega (arith, newline_count))
-
-    -- It starts the next row, with nothing on it.
-    pub newline_held : (e : Row) → line e ≡ [] → s.at + 1 < 16 → Holds s b (set s.rows (s.at + 1) e) (s.at + 1)
-    newline_held e none more =
-        let next : suc s.at < length s.rows = omega arith in
-        let next2 : s.at + 1 < length s.rows = omega arith in
-        let text : text_on (set s.rows (s.at + 1) e) (s.at + 1) ≡ text_of s ++ b ∷ [] = rw (newline, add-one) (text_row s.rows s.at e next none) in
-        let split : lines (text_of s ++ b ∷ []) ≡ map line (take (s.at + 1 + 1) (set s.rows (s.at + 1) e)) = newline_lines ∙ rw (s.split, ← none) (sym (map_push line (take (s.at + 1) s.rows) e)) ∙ ap (map line) (sym (take_more_set s.rows (s.at + 1) e next2)) in
-        holds s b _ _ text split (omega (arith, newline_count)) (omega (arith, newline_widest, s.narrow))
-
-  -- Another byte b, behind the line of the row at `at`.
-  module _ (b : ℕ) (other : b ≡ 10 → ⊥) (d : Row) where
-    abbrev above : List (List ℕ)
-    above = map line (take s.at s.rows)
-
-    abbrev last : List ℕ
-    last = line (get_or s.rows s.at d)
-
-    split_last : lines (text_of s) ≡ above ++ last ∷ []
-    split_last = s.split ∙ ap (map line) (take_more s.rows s.at d inside) ∙ map_push line (take s.at s.rows) (get_or s.rows s.at d)
-
-    byte_lines : lines (text_of s ++ b ∷ []) ≡ above ++ (last ++ b ∷ []) ∷ []
-    byte_lines = lines_byte b (ne_eqb b 10 other) (text_of s) above last split_last
-
-    byte_count : newlines (text_of s ++ b ∷ []) ≡ s.at
-    byte_count = omega (arith, lines_count [] (text_of s ++ b ∷ []), ap length byte_lines, length_push above (last ++ b ∷ []), ap length split_last, length_push above last, lines_size)
-
-    byte_widest : widest (text_of s ++ b ∷ []) ≡ max (widest (text_of s)) (length last + 1)
-    byte_widest =
-        let now = lines_widest [] (text_of s) in
-        let next = lines_widest [] (text_of s ++ b ∷ []) in
-        omega (arith, now, next, ap longest byte_lines, longest_push above (last ++ b ∷ []), length_push last b, ap longest split_last, longest_push above last)
-
-    pub byte_over : 40 ≤ length last → fits_slip (text_of s ++ b ∷ []) ≡ false
-    byte_over full = over_across (text_of s ++ b ∷ []) (omega (arith, byte_widest))
-
-    pub byte_held : (r : Row) → line r ≡ last ++ b ∷ [] → length last < 40 → Holds s b (set s.rows s.at r) s.at
-    byte_held r e room =
-        let split : lines (text_of s ++ b ∷ []) ≡ map line (take (s.at + 1) (set s.rows s.at r)) = byte_lines ∙ rw (← e) (sym (map_push line (take s.at s.rows) r)) ∙ ap (map line) (sym (take_more_set s.rows s.at r inside)) in
-        holds s b _ _ (text_cell s.rows s.at r d b inside e) split (omega (arith, byte_count, s.row)) (omega (arith, byte_widest, s.narrow))
+len_most s = omega (arith, s.few, s.size, short 0 (text_of s) s.narrow, newlines_rows s)

@@ -1,13 +1,12 @@
 -- A slip's rows, read as text.
-use Rattle.std.specs.Prelude.{ℕ, zero, suc, List, [], ◌∷◌, ◌++◌, take}
-use Rattle.sink.specs.declared.row.Row.{Row}
+use Rattle.std.specs.Prelude.{ℕ, List, map}
+use Rattle.std.specs.List.{join_with_byte}
+use Rattle.arrayvec.specs.ArrayVec.{ArrayVec}
 
 -- The line that a row holds.
-abbrev pub line : Row → List ℕ
-line r = take r.used r.cells
+abbrev pub line : ArrayVec ℕ → List ℕ
+line r = r.items
 
--- The text on the rows up to the n-th: their lines, with a newline between each two.
-abbrev pub text_on : List Row → ℕ → List ℕ
-text_on [] n = []
-text_on (r ∷ rs) zero = line r
-text_on (r ∷ rs) (suc n) = line r ++ 10 ∷ text_on rs n
+-- The text on rows: their lines, with a newline between each two.
+abbrev pub text_on : List (ArrayVec ℕ) → List ℕ
+text_on rows = join_with_byte 10 (map line rows)

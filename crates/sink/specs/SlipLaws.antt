@@ -1,10 +1,9 @@
 -- What a slip means, and that it keeps the laws of sinks.
-use Rattle.std.specs.Prelude.{◌≡◌, ℕ, ◌+◌, ◌≤◌, List, [], map, length, take}
+use Rattle.std.specs.Prelude.{◌≡◌, ℕ, ◌+◌, List, [], length, refl}
 use Rattle.std.proofs.Common.{ap, arith}
-use Rattle.std.proofs.lemmas.List.{length-map, length-take}
-use Rattle.lines.specs.Lines.{newlines, lines}
+use Rattle.std.proofs.lemmas.List.{length-map}
+use Rattle.lines.specs.Lines.{newlines}
 use Rattle.lines.proofs.Splits.{lines_count}
-use Rattle.sink.specs.declared.row.Row.{Row}
 use Rattle.sink.specs.declared.slip.Slip.{Slip}
 use Rattle.sink.specs.Begins.{Begins, begins_goes, begins_self}
 use Rattle.sink.specs.Fits.{fits_beginnings, fits_by, fits_slip}
@@ -13,7 +12,7 @@ use Rattle.sink.specs.Rule.{Laws, Rule}
 
 -- The text that a slip holds.
 abbrev pub text_of : Slip → List ℕ
-text_of s = text_on s.rows s.at
+text_of s = text_on s.rows.items
 
 -- The rule of every slip: the texts that fit are admitted; another is refused under number 10 and kind 2.
 abbrev pub rule_of : Slip → Rule
@@ -23,20 +22,17 @@ rule_of s = record { admits = fits_slip; reason = λ xs. record { number = 10; k
 abbrev pub Later : Slip → Slip → Type 0
 Later s t = Begins (text_of s) (text_of t)
 
--- The rows up to the one at `at` hold no more lines than there are.
-pub lines_most : (rows : List Row) (at : ℕ) → lines (text_on rows at) ≡ map line (take (at + 1) rows) → length (lines (text_on rows at)) ≤ at + 1
-lines_most rows at split = omega (arith, ap length split, length-map (take (at + 1) rows) line, length-take (at + 1) rows)
-
--- So the text has no more newlines than rows above that one.
-pub newlines_above : (rows : List Row) (at : ℕ) → lines (text_on rows at) ≡ map line (take (at + 1) rows) → newlines (text_on rows at) ≤ at
-newlines_above rows at split = omega (arith, lines_most rows at split, lines_count [] (text_on rows at))
+-- The text has one newline less than there are rows.
+pub newlines_rows : (s : Slip) → newlines (text_of s) + 1 ≡ length s.rows.items
+newlines_rows s = omega (arith, lines_count [] (text_of s), ap length s.split, length-map s.rows.items line)
 
 -- The laws of sinks, for slips.
 pub slip_laws : Laws text_of rule_of Later
 slip_laws =
     record {
       beginnings = λ s xs ys h. fits_beginnings xs ys h;
-      held = λ s. fits_by (text_of s) (omega (arith, newlines_above s.rows s.at s.split, s.row)) s.narrow;
+      held = λ s. fits_by (text_of s) (omega (arith, newlines_rows s, s.few)) s.narrow;
       stays = λ s. begins_self (text_of s);
       goes = λ s t u. begins_goes (text_of s) (text_of t) (text_of u);
+      keeps = λ s t l. refl;
     }

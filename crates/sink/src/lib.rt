@@ -5,9 +5,7 @@
 #![tactic(auto)]
 
 pub mod fault;
-pub mod kind;
 pub mod laws;
-mod row;
 pub mod sink;
 pub mod slip;
 #[cfg(test)]

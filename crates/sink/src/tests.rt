@@ -9,6 +9,9 @@ use crate::sink::Sink;
 use crate::slip::Slip;
 use crate::window::Window;
 use crate::write::{write, write_blanks, write_line};
+use arrayvec::ArrayString;
+use std::fmt::Write;
+use std::test::Fail;
 
 // A sink of this kind was full, and `text` bytes of the print stand.
 fn full(kind: u8, text: usize) -> Result<(), SinkFault> {
@@ -68,4 +71,17 @@ fn slip_edges(rt: HostRuntime) {
     assert_eq!(rt; write_line(&mut slip, 40, 0), full(2, 15));
     assert_eq!(rt; slip.row(15), Some(b"".as_slice()));
     assert_eq!(rt; slip.row(16), None);
+}
+
+#[test]
+fn fault_is_told(rt: HostRuntime) -> Result<(), Fail> {
+    let fault = SinkFault {
+        number: FULL,
+        kind: 1,
+        text: 3,
+    };
+    let mut told: ArrayString<40> = ArrayString::new();
+    write!(told, "{fault}")?;
+    assert_eq!(rt; told.as_str(), "refused by 10, kind 1, behind 3 bytes");
+    Ok(())
 }

@@ -2,16 +2,12 @@
 
 ghost use Rattle.sink.specs.SlipLaws.{text_of, rule_of, Later, slip_laws};
 
-use super::{ROWS, Slip};
-use crate::fault::{FULL, Refusal};
-use crate::kind::Kind;
-use crate::row::{Row, WIDTH};
+use super::{Row, Slip};
+use crate::fault::Refusal;
 use crate::sink::Sink;
 
 impl Sink for Slip {
-    type Kind = Kind<2>;
-
-    const KIND: Kind<2> = Kind;
+    ghost kind = { 2 };
 
     ghost text = { text_of };
 
@@ -21,26 +17,21 @@ impl Sink for Slip {
 
     ghost laws = { slip_laws };
 
+    fn kind() -> u8 {
+        2
+    }
+
     fn len(&self) -> usize {
         self.len
     }
 
     fn put(&mut self, byte: u8) -> Result<(), Refusal> {
-        let at = self.at;
         if byte == b'\n' {
-            if at + 1 >= ROWS {
-                return Err(Refusal::Own(FULL));
-            }
-            self.rows[at + 1] = Row::empty();
-            self.at = at + 1;
-            self.len += 1;
-            return Ok(());
+            self.rows.try_push(Row::new())?;
+        } else {
+            let last = self.rows.len() - 1;
+            self.rows[last].try_push(byte)?;
         }
-        let row = self.rows[at];
-        if row.line().len() >= WIDTH {
-            return Err(Refusal::Own(FULL));
-        }
-        self.rows[at] = row.with(byte);
         self.len += 1;
         Ok(())
     }

@@ -11,9 +11,6 @@ impl Slip {
     pub fn row(&self, i: usize) -> Option<&[u8]>
         ensures { MatchOption result (length (lines (text_of self.now)) ≤ i) (λ s. (i < length (lines (text_of self.now))) × (s.now ≡ slice_index_or (lines (text_of self.now)) i [])) }
     {
-        if i > self.at {
-            return None;
-        }
-        Some(self.rows[i].line())
+        self.rows.as_slice().get(i).map(|row| row.as_slice())
     }
 }

@@ -1,62 +1,50 @@
 -- A newline starts the next row, another byte goes behind the line of the last; else nothing changes.
-use Rattle.std.proofs.Common.{◌≡◌, ◌+◌, ◌<◌, ◌≤◌, [], length, get_or, refl, ap, arith, rules}
-use Rattle.sink.specs.declared.row.Row.{Row}
+use Rattle.std.proofs.Common.{◌≡◌, ◌+◌, ◌-◌, length, refl, arith, rules}
+use Rattle.std.proofs.lemmas.Result.{err_from_is_err_and}
 use Rattle.sink.specs.Begins.{begins_more}
-use Rattle.sink.specs.Rows.{line}
-use Rattle.sink.specs.SlipLaws.{slip_laws}
-use Rattle.sink.proofs.Slips.{byte_held, byte_over, len_most, newline_held, newline_over}
+use Rattle.sink.proofs.Slips.{Grown, newline_grown, newline_over, byte_grown, byte_over, len_most, same_rows, same_slip}
 use Rattle.sink.proofs.slip.filling.SlipSink.put.Goals as goal
+use Rattle.sink.proofs.slip.filling.SlipSink.put.Goals.{Joined-byte-eq10, then-byte-eq10+in_ok-try_push, else-byte-eq10+in_ok-try_push-2}
 
--- what a read past the rows would give
-abbrev blank : Row
-blank = record { cells = []; used = 0 }
-
-pub returns-then-at-ge-ROWS : goal.returns-then-at-ge-ROWS
-returns-then-at-ge-ROWS c =
+pub returns-in_err-try_push-clause-cases : goal.returns-in_err-try_push-clause-cases
+returns-in_err-try_push-clause-cases c =
     let s = c.args.self.now in
-    let long : length s.rows ≡ 16 = search rules in
-    let last : 16 ≤ s.at + 1 = omega arith in
-    record { rule = refl; later = slip_laws.stays s; cases = (record { over = newline_over s long c.args.byte c.if-byte-eq10.true last }, refl, refl) }
+    let p = err_from_is_err_and c.from_residual.result c.from_residual.ensures.1 in
+    let e = c.in_err-try_push.ensures in
+    rw (p.1, p.2) (record { over = newline_over s c.args.byte c.if-byte-eq10.true e.full }, same_slip _ _ e.err refl, refl)
 
-pub overflow_add-self-then-byte-eq10 : goal.overflow_add-self-then-byte-eq10
-overflow_add-self-then-byte-eq10 c = omega (arith, len_most c.args.self.now)
-
-pub invariant_of-self : goal.invariant_of-self
-invariant_of-self c =
+pub returns-in_err-try_push-2-clause-cases : goal.returns-in_err-try_push-2-clause-cases
+returns-in_err-try_push-2-clause-cases c =
     let s = c.args.self.now in
-    let long : length s.rows ≡ 16 = search rules in
-    let h = newline_held s long c.args.byte c.if-byte-eq10.true c.empty.result c.empty.ensures c.if-at-ge-ROWS.false in
-    record { row = omega arith; split = h.split; narrow = h.narrow; size = h.size }
+    let p = err_from_is_err_and c.from_residual-in_err-try_push-2.result c.from_residual-in_err-try_push-2.ensures.1 in
+    let e = c.in_err-try_push-2.ensures in
+    let rows = c.deref_mut.ensures.value in
+    let count : length c.deref_mut.result.now ≡ c.len-last.result - 1 + 1 = rw rows (omega arith) in
+    rw (p.1, p.2) (record { over = byte_over s c.args.byte c.if-byte-eq10.false _ rows _ count _ e.full }, same_slip _ _ (same_rows s.rows _ _ _ _ rows e.err) refl, refl)
 
-pub returns-then-byte-eq10 : goal.returns-then-byte-eq10
-returns-then-byte-eq10 c =
+pub overflow_add-self : goal.overflow_add-self
+overflow_add-self c = omega (arith, len_most c.args.self.now)
+
+-- what the rows hold where a byte was pushed
+grew : (c : Joined-byte-eq10) → Grown c.args.self.now c.args.byte c.if-byte-eq10.self.1.0.items
+grew c =
     let s = c.args.self.now in
-    let long : length s.rows ≡ 16 = search rules in
-    let h = newline_held s long c.args.byte c.if-byte-eq10.true c.empty.result c.empty.ensures c.if-at-ge-ROWS.false in
-    record { rule = refl; later = begins_more _ _ _ h.text; cases = record { fits = h.fits; text = h.text } }
-
-pub returns-then-line-ge-WIDTH : goal.returns-then-line-ge-WIDTH
-returns-then-line-ge-WIDTH c =
-    let s = c.args.self.now in
-    let long : length s.rows ≡ 16 = search rules in
-    let full : 40 ≤ length (line (get_or s.rows s.at blank)) = omega (arith, ap length c.line.ensures) in
-    record { rule = refl; later = slip_laws.stays s; cases = (record { over = byte_over s long c.args.byte c.if-byte-eq10.false blank full }, refl, refl) }
-
-pub overflow_add-self-2 : goal.overflow_add-self-2
-overflow_add-self-2 c = omega (arith, len_most c.args.self.now)
+    elim c.if-byte-eq10.branch [
+      | then-byte-eq10+in_ok-try_push w ↦
+          let e = w.in_ok-try_push.ensures in
+          rw (w.self-is, e.ok) (newline_grown s c.args.byte w.if-byte-eq10.true _ (search rules) (e.variant.0 refl))
+      | else-byte-eq10+in_ok-try_push-2 w ↦
+          let e = w.in_ok-try_push-2.ensures in
+          let rows = w.deref_mut.ensures.value in
+          let count : length w.deref_mut.result.now ≡ w.len-last.result - 1 + 1 = rw rows (omega arith) in
+          rw w.self-is (byte_grown s c.args.byte w.if-byte-eq10.false _ rows _ count _ _ e.ok (e.variant.0 refl))
+    ]
 
 pub invariant_of-self-2 : goal.invariant_of-self-2
-invariant_of-self-2 c =
-    let s = c.args.self.now in
-    let long : length s.rows ≡ 16 = search rules in
-    let room : length (line (get_or s.rows s.at blank)) < 40 = omega (arith, ap length c.line.ensures) in
-    let h = byte_held s long c.args.byte c.if-byte-eq10.false blank c.with.result c.with.ensures room in
-    record { row = s.row; split = h.split; narrow = h.narrow; size = h.size }
+invariant_of-self-2 c = let h = grew c in record { some = h.some; few = h.few; split = h.split; narrow = h.narrow; size = h.size }
 
-pub returns : goal.returns
-returns c =
-    let s = c.args.self.now in
-    let long : length s.rows ≡ 16 = search rules in
-    let room : length (line (get_or s.rows s.at blank)) < 40 = omega (arith, ap length c.line.ensures) in
-    let h = byte_held s long c.args.byte c.if-byte-eq10.false blank c.with.result c.with.ensures room in
-    record { rule = refl; later = begins_more _ _ _ h.text; cases = record { fits = h.fits; text = h.text } }
+pub returns-clause-later : goal.returns-clause-later
+returns-clause-later c = begins_more _ _ _ (grew (goal.at.returns-clause-later c).Joined-byte-eq10).text
+
+pub returns-clause-cases : goal.returns-clause-cases
+returns-clause-cases c = let h = grew (goal.at.returns-clause-cases c).Joined-byte-eq10 in record { fits = h.fits; text = h.text }
