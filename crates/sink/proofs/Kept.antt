@@ -1,6 +1,6 @@
 -- What a rule keeps of a run of bytes behind a text. The lemmas that ask for `Beginnings` hold of every sink's rule.
-use Rattle.std.proofs.Common.{◌≡◌, ℕ, suc, ◌+◌, ◌<◌, ◌≤◌, Bool, true, false, cond, List, [], ◌∷◌, ◌++◌, length, get_or, take, drop, sym, refl, ap, ◌∙◌, ⊎_elim, arith}
-use Rattle.std.proofs.lemmas.List.{append-nil, append_assoc, take_all, take_more, drop_more, take-append-drop, take-take}
+use Rattle.std.proofs.Common.{◌≡◌, ℕ, suc, ◌+◌, ◌<◌, ◌≤◌, Bool, true, false, List, [], ◌∷◌, ◌++◌, length, take, drop, sym, refl, ap, ◌∙◌, ⊎_elim, arith}
+use Rattle.std.proofs.lemmas.List.{append-nil, append_assoc, take-append-drop, take-take}
 use Rattle.std.proofs.lemmas.Bool.{cases_Bool, cases_lt, cond-true, cond-false, both_ways}
 use Rattle.sink.specs.Longest.{Longest}
 use Rattle.sink.specs.Rule.{Beginnings, kept}
@@ -56,14 +56,6 @@ kept_front p before (x ∷ xs) ys h cut =
     (λ e. kept_none p before x (xs ++ ys) e ∙ sym (kept_none p before x xs e))
     (cases_Bool (p (before ++ x ∷ [])))
 
--- A run behind another: the second counts only where the first is kept whole.
-pub kept_append : (p : List ℕ → Bool) → Beginnings p → (before xs ys : List ℕ) → p before ≡ true → kept p before (xs ++ ys) ≡ cond (p (before ++ xs)) (xs ++ kept p (before ++ xs) ys) (kept p before xs)
-kept_append p beg before xs ys h =
-    ⊎_elim
-    (λ e. kept_behind p beg before xs ys e ∙ sym (cond-true _ _ _ e))
-    (λ e. kept_front p before xs ys h e ∙ sym (cond-false _ _ _ e))
-    (cases_Bool (p (before ++ xs)))
-
 -- A run of which not all is kept: one byte more is not admitted, so that what is kept is the longest beginning.
 pub kept_cut : (p : List ℕ → Bool) (before bytes : List ℕ) → length (kept p before bytes) < length bytes → p (before ++ take (length (kept p before bytes) + 1) bytes) ≡ false
 kept_cut p before [] less = absurd (omega arith)
@@ -76,31 +68,10 @@ kept_cut p before (b ∷ bs) less =
     (λ e. rw (kept_none p before b bs e) e)
     (cases_Bool (p (before ++ b ∷ [])))
 
--- A run of which as many bytes are kept as it has is kept whole.
-pub kept_same : (p : List ℕ → Bool) (before bytes : List ℕ) → length bytes ≤ length (kept p before bytes) → kept p before bytes ≡ bytes
-kept_same p before bytes long = kept_begins p before bytes ∙ take_all _ bytes long
-
--- Such a run is admitted.
-pub kept_whole : (p : List ℕ → Bool) (before bytes : List ℕ) → length bytes ≤ length (kept p before bytes) → p before ≡ true → p (before ++ bytes) ≡ true
-kept_whole p before bytes long h = rw (kept_same p before bytes long) at (kept_admitted p before bytes h)
-
--- A run that is not admitted is not kept whole.
-pub kept_short : (p : List ℕ → Bool) (before bytes : List ℕ) → p before ≡ true → p (before ++ bytes) ≡ false → length (kept p before bytes) < length bytes
-kept_short p before bytes h cut =
-    ⊎_elim (λ less. less) (λ long. absurd (both_ways _ cut (kept_whole p before bytes long h))) (cases_lt (length (kept p before bytes)) (length bytes))
-
 -- A run that is not kept whole is not admitted.
 pub kept_over : (p : List ℕ → Bool) → Beginnings p → (before bytes : List ℕ) → length (kept p before bytes) < length bytes → p (before ++ bytes) ≡ false
 kept_over p beg before bytes less =
     ⊎_elim (λ fits. absurd (omega (arith, ap length (kept_all p beg before bytes fits)))) (λ over. over) (cases_Bool (p (before ++ bytes)))
-
--- What is kept, from the place where the rule stops admitting.
-pub kept_stop : (p : List ℕ → Bool) → Beginnings p → (before bytes : List ℕ) (i : ℕ) → i < length bytes → p (before ++ take i bytes) ≡ true → p (before ++ take (i + 1) bytes) ≡ false → kept p before bytes ≡ take i bytes
-kept_stop p beg before bytes i less fits over =
-    let b = get_or bytes i 0 in
-    let parts : bytes ≡ take i bytes ++ b ∷ drop (i + 1) bytes = sym (take-append-drop i bytes) ∙ ap (λ (zs : List ℕ). take i bytes ++ zs) (drop_more bytes i 0 less) in
-    let over2 : p ((before ++ take i bytes) ++ b ∷ []) ≡ false = rw (append_assoc, ← take_more bytes i 0 less) over in
-    ap (kept p before) parts ∙ kept_behind p beg before (take i bytes) (b ∷ drop (i + 1) bytes) fits ∙ ap (λ (zs : List ℕ). take i bytes ++ zs) (kept_none p (before ++ take i bytes) b (drop (i + 1) bytes) over2) ∙ append-nil (take i bytes)
 
 -- With n bytes any fewer are admitted.
 fewer : (p : List ℕ → Bool) → Beginnings p → (before bytes : List ℕ) (k n : ℕ) → k ≤ n → p (before ++ take n bytes) ≡ true → p (before ++ take k bytes) ≡ true

@@ -1,5 +1,3 @@
 pub mod Kept
 pub mod Runs
 mod Slips
-pub mod Windows
-mod Writing

@@ -1,11 +1,15 @@
--- After i turns the first i bytes stand behind the text, under the same rule.
-use Rattle.std.proofs.Common.{◌≡◌, ◌≤◌, ◌++◌, length, take}
+-- After i turns the first i bytes are written.
+use Rattle.std.proofs.Common.{◌≡◌, true, ◌++◌, take}
+use Rattle.sink.specs.Fault.{Leaves}
 use Rattle.sink.proofs.write.write.Given as goal
 
-abbrev pub invariant-loop-b : goal.invariant-loop-b
-invariant-loop-b g l =
+abbrev pub invariant-loop-byte : goal.invariant-loop-byte
+invariant-loop-byte g l =
     let m = g.S.Sink in
-    (l.b-index ≤ length l.bytes)
-    × (m.rule l.sink ≡ m.rule l.initial.sink)
-    × m.later l.initial.sink l.sink
-    × (m.text l.sink ≡ m.text l.initial.sink ++ take l.b-index l.bytes)
+    let s = l.initial.sink in
+    let run = take l.byte-index l.bytes in
+    record {
+      later : m.later s l.sink;
+      text : Leaves m.text m.rule s run l.sink;
+      cases : (m.rule s).admits (m.text s ++ run) ≡ true;
+    }
