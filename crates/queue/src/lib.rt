@@ -1,7 +1,7 @@
-// A queue of at most N elements, in a ring of slots that it owns: it begins at one of the slots, and goes
-// on from the last slot to the first. Contracts see the list of its elements, first to last, and not where
-// they stand. No call of it requires anything, and a refusal changes nothing. N may be any number, 0 too.
-// Each call does a constant amount of work, but for `push_all`, which copies its elements one by one.
+// A queue of at most N elements, in a ring of slots that it owns. Contracts see the list of its elements,
+// first to last, and not where they stand. No public function requires anything, and what is refused
+// changes nothing. N may be any number, 0 too. Each call does a constant amount of work, but for
+// `push_all`, which copies its elements one by one.
 #![tactic(auto)]
 
 ghost use Rattle.std.specs.Prelude.{◌≡◌, ◌+◌, ◌-◌, ◌<◌, ◌≤◌, ◌↔◌, [], ◌∷◌, ◌++◌, length, take, drop, IsOk, OnOk, OnErr, slice_get, slice_set};
@@ -23,6 +23,7 @@ impl fmt::Display for Full {
 
 impl Error for Full {}
 
+// The elements lie in the `len` slots from `head` on, round the end.
 #[derive(Clone, Debug, Drop)]
 pub struct Queue<T, const N: usize> {
     slots: [T; N],

@@ -45,10 +45,10 @@ module _ (k b d : ℕ) (h : List Token) (c : ℕ) (s : Scan) (stl : Settling k b
       let t = stl.counts in
       let more : c ≡ suc n = omega (arith, last_place.0) in
       let inside : n < length (waits k b d h) = let m = stl.most in omega arith in
-      let stands = place_at n k b d h inside in
+      let stands = place_at n k b d h p inside in
       let within = stands.within in
       let i = spot n h in
-      let where' : p ≡ place (k + i) (b + widths (take i h)) (nest d (take i h)) = last_place.1 ∙ stands.is p in
+      let where' : p ≡ place (k + i) (b + widths (take i h)) (nest d (take i h)) = last_place.1 ∙ stands.is in
       let long : length s.slots ≡ length h = ap length stl.slots ∙ length_mixed c h in
       let both : widths h ≡ widths (take i h) + widths (drop i h) = ap widths (sym (take-append-drop i h)) ∙ widths_append (take i h) (drop i h) in
       let room = t.room in
@@ -56,7 +56,7 @@ module _ (k b d : ℕ) (h : List Token) (c : ℕ) (s : Scan) (stl : Settling k b
       let wide : size ≡ widths (drop i h) = f ∙ unwrapped (b + widths (take i h)) (widths (drop i h)) s.total p.since (omega arith) (ap (λ (x : Place). x.since) where') (t.total ∙ ap wrapped (omega arith)) in
       let blank = slotted Ending None in
       let wrote = MatchOption-at_some _ _ _ (slice_get-get_or s.slots at blank (omega arith)) changed in
-      let step = mixed_step n k b d h inside blank in (
+      let step = mixed_step n k b d h blank inside in (
         n,
         more,
         record {

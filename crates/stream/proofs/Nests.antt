@@ -1,7 +1,8 @@
 -- Open blocks, and the reach of a token, as tokens come.
-use Rattle.std.proofs.Common.{◌≡◌, ℕ, zero, suc, pred, ◌+◌, ◌<◌, ◌≤◌, Bool, true, false, List, [], ◌∷◌, ◌++◌, length, refl, ap, arith}
-use Rattle.std.proofs.lemmas.Bool.{both_ways}
-use Rattle.layout.specs.Tokens.{Token, Text, Break, Opening, Ending, widths, reached, before_reach, nest}
+use Rattle.std.proofs.Common.{◌≡◌, ℕ, zero, suc, pred, ◌+◌, ◌<◌, ◌≤◌, Bool, true, false, cond, not, ◌||◌, ◌&&◌, eqb, List, [], ◌∷◌, ◌++◌, refl, arith}
+use Rattle.std.proofs.lemmas.Bool.Decides.{nat_tests}
+use Rattle.layout.specs.Tokens.{Token, Text, Break, Opening, Ending, width, widths, reached, before_reach, nest}
+use Rattle.stream.specs.Recorded.{deeper}
 
 -- a token that is no Break moves no reach
 abbrev pub quiet : Token → Bool
@@ -10,64 +11,47 @@ quiet (Break blanks offset) = false
 quiet (Opening offset fold anchor) = true
 quiet Ending = true
 
-reached_alone : (n : ℕ) (x : Token) → quiet x ≡ true → reached n (x ∷ []) ≡ false
-reached_alone n (Text bytes) q = refl
-reached_alone n (Break blanks offset) q = absurd (both_ways false refl q)
-reached_alone n (Opening offset fold anchor) q = refl
-reached_alone n Ending q = refl
+-- One token more in front: a Break is the reach where no block is open.
+pub nest_deeper : (d : ℕ) (t : Token) (ts : List Token) → nest (deeper d t) ts ≡ nest d (t ∷ ts)
+nest_deeper d (Text bytes) ts = refl
+nest_deeper d (Break blanks offset) ts = refl
+nest_deeper d (Opening offset fold anchor) ts = refl
+nest_deeper d Ending ts = refl
+
+reached_step : (n : ℕ) (t : Token) (ts : List Token) → reached n (t ∷ ts) ≡ ((not (quiet t) && eqb n 0) || reached (deeper n t) ts)
+reached_step n (Text bytes) ts = refl
+reached_step zero (Break blanks offset) ts = refl
+reached_step (suc n) (Break blanks offset) ts = grind (arith, nat_tests)
+reached_step n (Opening offset fold anchor) ts = refl
+reached_step n Ending ts = refl
+
+before_step : (n : ℕ) (t : Token) (ts : List Token) → before_reach n (t ∷ ts) ≡ cond (not (quiet t) && eqb n 0) 0 (width t + before_reach (deeper n t) ts)
+before_step n (Text bytes) ts = refl
+before_step zero (Break blanks offset) ts = refl
+before_step (suc n) (Break blanks offset) ts = grind (arith, nat_tests)
+before_step n (Opening offset fold anchor) ts = omega arith
+before_step n Ending ts = omega arith
 
 pub reached_quiet : (n : ℕ) (ts : List Token) (x : Token) → quiet x ≡ true → reached n (ts ++ x ∷ []) ≡ reached n ts
-reached_quiet n [] x q = reached_alone n x q
-reached_quiet n (Text bytes ∷ ts) x q = reached_quiet n ts x q
-reached_quiet zero (Break blanks offset ∷ ts) x q = refl
-reached_quiet (suc n) (Break blanks offset ∷ ts) x q = reached_quiet (suc n) ts x q
-reached_quiet n (Opening offset fold anchor ∷ ts) x q = reached_quiet (suc n) ts x q
-reached_quiet n (Ending ∷ ts) x q = reached_quiet (pred n) ts x q
-
--- a Break is the reach where no block is open
-reached_zero : (n b : ℕ) (o : _) → n ≡ 0 → reached n (Break b o ∷ []) ≡ true
-reached_zero zero b o e = refl
-reached_zero (suc n) b o e = absurd (omega arith)
-
-reached_suc : (n b : ℕ) (o : _) → 0 < n → reached n (Break b o ∷ []) ≡ false
-reached_suc zero b o e = absurd (omega arith)
-reached_suc (suc n) b o e = refl
+reached_quiet n [] x q = grind (arith, nat_tests, reached_step n x [])
+reached_quiet n (t ∷ ts) x q = grind (arith, nat_tests, reached_step n t ts, reached_step n t (ts ++ x ∷ []), reached_quiet (deeper n t) ts x q)
 
 pub reached_break : (n : ℕ) (ts : List Token) (b : ℕ) (o : _) → nest n ts ≡ 0 → reached n (ts ++ Break b o ∷ []) ≡ true
-reached_break n [] b o h = reached_zero n b o h
-reached_break n (Text bytes ∷ ts) b o h = reached_break n ts b o h
-reached_break zero (Break blanks offset ∷ ts) b o h = refl
-reached_break (suc n) (Break blanks offset ∷ ts) b o h = reached_break (suc n) ts b o h
-reached_break n (Opening offset fold anchor ∷ ts) b o h = reached_break (suc n) ts b o h
-reached_break n (Ending ∷ ts) b o h = reached_break (pred n) ts b o h
+reached_break n [] b o h = grind (arith, nat_tests, reached_step n (Break b o) [])
+reached_break n (t ∷ ts) b o h = grind (arith, nat_tests, nest_deeper n t ts, reached_step n t (ts ++ Break b o ∷ []), reached_break (deeper n t) ts b o)
 
 pub unreached_break : (n : ℕ) (ts : List Token) (b : ℕ) (o : _) → reached n ts ≡ false → 0 < nest n ts → reached n (ts ++ Break b o ∷ []) ≡ false
-unreached_break n [] b o r h = reached_suc n b o h
-unreached_break n (Text bytes ∷ ts) b o r h = unreached_break n ts b o r h
-unreached_break zero (Break blanks offset ∷ ts) b o r h = absurd (both_ways true r refl)
-unreached_break (suc n) (Break blanks offset ∷ ts) b o r h = unreached_break (suc n) ts b o r h
-unreached_break n (Opening offset fold anchor ∷ ts) b o r h = unreached_break (suc n) ts b o r h
-unreached_break n (Ending ∷ ts) b o r h = unreached_break (pred n) ts b o r h
+unreached_break n [] b o r h = grind (arith, nat_tests, reached_step n (Break b o) [])
+unreached_break n (t ∷ ts) b o r h = grind (arith, nat_tests, nest_deeper n t ts, reached_step n t ts, reached_step n t (ts ++ Break b o ∷ []), unreached_break (deeper n t) ts b o)
 
 -- the size that a Break settles is all the widths before it
-before_zero : (n b : ℕ) (o : _) → n ≡ 0 → before_reach n (Break b o ∷ []) ≡ 0
-before_zero zero b o e = refl
-before_zero (suc n) b o e = absurd (omega arith)
-
 pub before_break : (n : ℕ) (ts : List Token) (b : ℕ) (o : _) → reached n ts ≡ false → nest n ts ≡ 0 → before_reach n (ts ++ Break b o ∷ []) ≡ widths ts
-before_break n [] b o r h = before_zero n b o h
-before_break n (Text bytes ∷ ts) b o r h = ap (λ (k : ℕ). length bytes + k) (before_break n ts b o r h)
-before_break zero (Break blanks offset ∷ ts) b o r h = absurd (both_ways true r refl)
-before_break (suc n) (Break blanks offset ∷ ts) b o r h = ap (λ (k : ℕ). blanks + k) (before_break (suc n) ts b o r h)
-before_break n (Opening offset fold anchor ∷ ts) b o r h = let e = before_break (suc n) ts b o r h in omega arith
-before_break n (Ending ∷ ts) b o r h = let e = before_break (pred n) ts b o r h in omega arith
+before_break n [] b o r h = grind (arith, nat_tests, before_step n (Break b o) [])
+before_break n (t ∷ ts) b o r h = grind (arith, nat_tests, nest_deeper n t ts, reached_step n t ts, before_step n t (ts ++ Break b o ∷ []), before_break (deeper n t) ts b o)
 
 pub nest_append : (n : ℕ) (ts us : List Token) → nest n (ts ++ us) ≡ nest (nest n ts) us
 nest_append n [] us = refl
-nest_append n (Text bytes ∷ ts) us = nest_append n ts us
-nest_append n (Break blanks offset ∷ ts) us = nest_append n ts us
-nest_append n (Opening offset fold anchor ∷ ts) us = nest_append (suc n) ts us
-nest_append n (Ending ∷ ts) us = nest_append (pred n) ts us
+nest_append n (t ∷ ts) us = grind (arith, nest_deeper n t ts, nest_deeper n t (ts ++ us), nest_append (deeper n t) ts us)
 
 -- j more blocks before are at most j more after, and no fewer
 pub nest_most : (n k j : ℕ) (ts : List Token) → k ≤ n + j → nest k ts ≤ nest n ts + j
@@ -88,13 +72,9 @@ nest_shift (suc n) k d (Ending ∷ ts) h e = nest_shift n (pred k) d ts h (omega
 
 -- past its reach, a token's own block is closed
 pub nest_reached : (n : ℕ) (ts : List Token) → reached n ts ≡ true → nest n ts ≡ nest 0 ts
-nest_reached n [] r = absurd (both_ways false refl r)
-nest_reached n (Text bytes ∷ ts) r = nest_reached n ts r
-nest_reached zero (Break blanks offset ∷ ts) r = refl
-nest_reached (suc n) (Break blanks offset ∷ ts) r = nest_reached (suc n) ts r
-nest_reached n (Opening offset fold anchor ∷ ts) r =
-    let a = nest_reached (suc n) ts r in
+nest_reached n [] r = grind (arith, nat_tests)
+nest_reached n (t ∷ ts) r =
     let l = nest_most 0 1 1 ts (omega arith) in
     let m = nest_most (suc n) 1 0 ts (omega arith) in
-    let k = nest_most 1 0 0 ts (omega arith) in omega arith
-nest_reached n (Ending ∷ ts) r = nest_reached (pred n) ts r
+    let k = nest_most 1 0 0 ts (omega arith) in
+    grind (arith, nat_tests, nest_deeper n t ts, nest_deeper 0 t ts, reached_step n t ts, nest_reached (deeper n t) ts)
