@@ -1,6 +1,5 @@
 -- A Break, written as the pen decides, is written as the layout writes it.
-use Rattle.std.proofs.Common.{◌≡◌, ℕ, ◌+◌, Bool, true, false, cond, List, ◌∷◌, ◌++◌, length, ℤ, sym, refl, ap, subst}
-use lib.ListN.{length-replicate}
+use Rattle.std.proofs.Common.{◌≡◌, ℕ, ◌+◌, Bool, true, false, cond, List, ◌∷◌, ◌++◌, ℤ, refl, ap}
 use Rattle.layout.specs.Tokens.{Break}
 use Rattle.layout.specs.Layout.{Pen as LayoutPen, innermost, stays, blanks, next_indent, writes, after}
 use Rattle.pen.specs.declared.breaking.Breaking.{Breaking}
@@ -11,7 +10,7 @@ use Rattle.pen.specs.At.{At, breaking, bytes_of, column_after}
 pub breaking_writes : (m : ℕ) (pen : LayoutPen) (n : ℕ) (offset : ℤ) (fits : Bool) → bytes_of (breaking m pen n offset fits) ≡ writes m pen (Break n offset) fits
 breaking_writes m pen n offset fits =
     let k = next_indent m pen offset in
-    elim (stays (innermost pen.blocks).mode fits) as (λ t. bytes_of (cond t (Blanks n) (Line k)) ≡ cond t (blanks n) (0x0A ∷ blanks k)) [ true ↦ refl | false ↦ refl ]
+    elim (stays (innermost pen.blocks).fold fits) as (λ t. bytes_of (cond t (Blanks n) (Line k)) ≡ cond t (blanks n) (0x0A ∷ blanks k)) [ true ↦ refl | false ↦ refl ]
 
 column_breaks : (b : Bool) (column n k : ℕ) → column_after column (cond b (Blanks n) (Line k)) ≡ cond b (column + n) k
 column_breaks true column n k = refl
@@ -20,27 +19,9 @@ column_breaks false column n k = refl
 pub breaking_after : (m : ℕ) (pen : LayoutPen) (n : ℕ) (offset : ℤ) (fits : Bool) → record { column = column_after pen.column (breaking m pen n offset fits); blocks = pen.blocks } ≡ after m pen (Break n offset) fits
 breaking_after m pen n offset fits =
     let P : ℕ → LayoutPen = λ column. record { column = column; blocks = pen.blocks } in
-    ap P (column_breaks (stays (innermost pen.blocks).mode fits) pen.column n (next_indent m pen offset))
-
--- where a pen stands after a Break, by how it was written
-pub after_blanks : (m : ℕ) (pen : LayoutPen) (out : List ℕ) (p : Pen) (how : Breaking) (n : ℕ) → how ≡ Blanks n →
-    At m (record { column = pen.column + length (blanks n); blocks = pen.blocks }) (out ++ blanks n) p → At m (record { column = column_after pen.column how; blocks = pen.blocks }) (out ++ bytes_of how) p
-after_blanks m pen out p how n e at =
-    let Written : Breaking → Type 0 = λ b. At m (record { column = column_after pen.column b; blocks = pen.blocks }) (out ++ bytes_of b) p in
-    let Column : ℕ → Type 0 = λ k. At m (record { column = pen.column + k; blocks = pen.blocks }) (out ++ blanks n) p in
-    subst Written (sym e) (subst Column (length-replicate n 0x20) at)
-
-pub after_line : (m : ℕ) (pen : LayoutPen) (out : List ℕ) (p : Pen) (how : Breaking) (k : ℕ) → how ≡ Line k →
-    At m (record { column = k; blocks = pen.blocks }) (out ++ 0x0A ∷ blanks k) p → At m (record { column = column_after pen.column how; blocks = pen.blocks }) (out ++ bytes_of how) p
-after_line m pen out p how k e at =
-    let Written : Breaking → Type 0 = λ b. At m (record { column = column_after pen.column b; blocks = pen.blocks }) (out ++ bytes_of b) p in
-    subst Written (sym e) at
+    ap P (column_breaks (stays (innermost pen.blocks).fold fits) pen.column n (next_indent m pen offset))
 
 -- so a Break that is written as the pen decides leaves the pen where the layout's stands, after what the layout writes
 pub after_break : (m : ℕ) (pen : LayoutPen) (out : List ℕ) (p : Pen) (n : ℕ) (offset : ℤ) (fits : Bool) (how : Breaking) → how ≡ breaking m pen n offset fits →
     At m (record { column = column_after pen.column how; blocks = pen.blocks }) (out ++ bytes_of how) p → At m (after m pen (Break n offset) fits) (out ++ writes m pen (Break n offset) fits) p
-after_break m pen out p n offset fits how e at =
-    let Written : Breaking → Type 0 = λ b. At m (record { column = column_after pen.column b; blocks = pen.blocks }) (out ++ bytes_of b) p in
-    let Standing : LayoutPen → Type 0 = λ q. At m q (out ++ bytes_of (breaking m pen n offset fits)) p in
-    let Text : List ℕ → Type 0 = λ bytes. At m (after m pen (Break n offset) fits) (out ++ bytes) p in
-    subst Text (breaking_writes m pen n offset fits) (subst Standing (breaking_after m pen n offset fits) (subst Written e at))
+after_break m pen out p n offset fits how e at = rw (← breaking_writes m pen n offset fits, ← breaking_after m pen n offset fits, ← e) at

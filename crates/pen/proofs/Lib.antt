@@ -1,4 +1,2 @@
-pub mod Stack
 pub mod Texts
 pub mod Breaks
-pub mod Blocks

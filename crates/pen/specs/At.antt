@@ -1,5 +1,5 @@
 -- Where a program's pen stands, in the words of the layout.
-use Rattle.std.specs.Prelude.{◌≡◌, ℕ, ◌+◌, ◌-◌, ◌^◌, min, Bool, cond, List, ◌∷◌, reverse, take, ℤ}
+use Rattle.std.specs.Prelude.{◌≡◌, ℕ, ◌+◌, ◌-◌, ◌^◌, min, Bool, cond, List, ◌∷◌, reverse, ℤ}
 use Rattle.layout.specs.declared.token.Block.{Block}
 use Rattle.layout.specs.Margins.{kept_column}
 use Rattle.layout.specs.Layout.{Pen as LayoutPen, innermost, stays, blanks, next_indent}
@@ -10,7 +10,7 @@ use Rattle.pen.specs.declared.pen.Pen.{Pen}
 
 -- the open blocks, the innermost first
 abbrev pub open_blocks : Pen → List Block
-open_blocks p = reverse (take p.«open» p.blocks)
+open_blocks p = reverse p.blocks.items
 
 -- the program's pen stands where the layout's pen stands, at the margin m and after the text `out` was written
 pub record At (m : ℕ) (pen : LayoutPen) (out : List ℕ) (p : Pen) : Type 0 where
@@ -23,7 +23,7 @@ pub record At (m : ℕ) (pen : LayoutPen) (out : List ℕ) (p : Pen) : Type 0 wh
 
 -- how a Break of n blanks and this offset is written, given whether it fits
 abbrev pub breaking : ℕ → LayoutPen → ℕ → ℤ → Bool → Breaking
-breaking m pen n offset fits = cond (stays (innermost pen.blocks).mode fits) (Blanks n) (Line (next_indent m pen offset))
+breaking m pen n offset fits = cond (stays (innermost pen.blocks).fold fits) (Blanks n) (Line (next_indent m pen offset))
 
 -- the bytes that it is
 abbrev pub bytes_of : Breaking → List ℕ

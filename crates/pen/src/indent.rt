@@ -7,13 +7,6 @@ use layout::margin::Margin;
 pub(crate) fn indentation(base: u16, offset: i8, margin: Margin) -> u8
     ensures { result ≡ indented base offset margin.columns }
 {
-    let top = margin.columns() - 8;
-    let moved = base as i32 + offset as i32;
-    if moved < 0 {
-        0
-    } else if moved < top as i32 {
-        moved as u8
-    } else {
-        top
-    }
+    let top = i32::from(margin.columns() - 8);
+    (i32::from(base) + i32::from(offset)).clamp(0, top) as u8
 }

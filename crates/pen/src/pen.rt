@@ -1,22 +1,23 @@
 // The pen that writes a layout: its margin, its column, which stops at 65,535, its open blocks, at
 // most 64, the last one innermost, and the newlines and the widest line written so far.
-ghost use Rattle.std.specs.Prelude.{◌≡◌, ◌≤◌, length};
+ghost use Rattle.std.specs.Prelude.{◌≡◌};
 
+use arrayvec::ArrayVec;
 use layout::margin::Margin;
 use layout::token::Block;
 
 pub mod writing;
 
-#[derive(Clone, Copy)]
+// The most blocks that are open at once.
+pub const BLOCKS: usize = 64;
+
+#[derive(Clone, Drop)]
 pub struct Pen {
     margin: Margin,
     column: u16,
     widest: u16,
     newlines: u64,
-    blocks: [Block; 64],
-    open: usize,
-    ghost few: { «open» ≤ 64 },
-    ghost full: { length blocks ≡ 64 },
+    blocks: ArrayVec<Block, BLOCKS>,
 }
 
 impl Pen {

@@ -1,17 +1,19 @@
 // What a pen answers and how it moves on, in the words of the layout: whether a size fits, how a
 // Break is written, and where writing stands after each token. Every call is total: what it means is
-// said of a pen that stands where the layout's pen stands.
+// said of a pen that stands where the layout's pen stands. That stays a premise: the layout's column
+// without a limit and the text written are in no field.
 ghost use Rattle.std.specs.Prelude.{◌≡◌, ℕ, ◌+◌, ◌<◌, ◌≤◌, Bool, List, [], ◌++◌, length, nat_le};
-ghost use Rattle.layout.specs.Layout.{Pen as LayoutPen, start, innermost, mode_of, base_of, after};
-ghost use Rattle.layout.specs.Tokens.{Opening, Ending};
+ghost use Rattle.layout.specs.Layout.{Pen as LayoutPen, start, innermost, fold_of, base_of, after};
+ghost use Rattle.layout.specs.Tokens.{Opening as OpeningToken, Ending as EndingToken};
 ghost use Rattle.lines.specs.Lines.{newlines};
 ghost use Rattle.pen.specs.At.{At, open_blocks, breaking, bytes_of, column_after};
 
 use crate::breaking::Breaking;
 use crate::indent::indentation;
 use crate::pen::Pen;
+use arrayvec::ArrayVec;
 use layout::margin::Margin;
-use layout::token::{Anchor, Block, Fold, Mode};
+use layout::token::{Anchor, Block, Break, Fold, Opening};
 
 impl Pen {
     // The pen before anything is written.
@@ -23,11 +25,7 @@ impl Pen {
             column: 0,
             widest: 0,
             newlines: 0,
-            blocks: [Block {
-                mode: Mode::All,
-                indent: 0,
-            }; 64],
-            open: 0,
+            blocks: ArrayVec::new(),
         }
     }
 
@@ -38,20 +36,20 @@ impl Pen {
         self.column.saturating_add(size) <= self.margin.columns() as u16
     }
 
-    // How a Break of these blanks and this offset is written, given whether it fits.
-    pub fn break_as(&self, blanks: u8, offset: i8, fits: bool) -> Breaking
-        ensures { (m : ℕ) (pen : LayoutPen) (out : List ℕ) → At m pen out self.now → result ≡ breaking m pen blanks offset fits }
+    // How a Break is written, given whether it fits.
+    pub fn break_as(&self, gap: Break, fits: bool) -> Breaking
+        ensures { (m : ℕ) (pen : LayoutPen) (out : List ℕ) → At m pen out self.now → result ≡ breaking m pen gap.blanks gap.offset fits }
     {
         let block = self.current();
-        let stays = match block.mode {
-            Mode::Flat => true,
-            Mode::All => false,
-            Mode::Each => fits,
+        let stays = match block.fold {
+            None => true,
+            Some(Fold::All) => false,
+            Some(Fold::Each) => fits,
         };
         if stays {
-            Breaking::Blanks(blanks)
+            Breaking::Blanks(gap.blanks)
         } else {
-            Breaking::Line(indentation(block.indent as u16, offset, self.margin))
+            Breaking::Line(indentation(block.indent as u16, gap.offset, self.margin))
         }
     }
 
@@ -78,40 +76,35 @@ impl Pen {
     }
 
     // A block opens here. Where 64 are open, nothing changes.
-    pub fn open_block(&mut self, offset: i8, fold: Fold, anchor: Anchor, fits: bool)
-        ensures opens { (m : ℕ) (pen : LayoutPen) (out : List ℕ) → At m pen out self.old → length pen.blocks < 64 → At m (after m pen (Opening offset fold anchor) fits) out self.new }
+    pub fn open_block(&mut self, opening: Opening, fits: bool)
+        ensures opens { (m : ℕ) (pen : LayoutPen) (out : List ℕ) → At m pen out self.old → length pen.blocks < 64 → At m (after m pen (OpeningToken opening.offset opening.fold opening.anchor) fits) out self.new }
         ensures full { (m : ℕ) (pen : LayoutPen) (out : List ℕ) → At m pen out self.old → 64 ≤ length pen.blocks → self.new ≡ self.old }
     {
-        if self.open < 64 {
-            let base = self.base(anchor);
-            let indent = indentation(base, offset, self.margin);
-            self.blocks[self.open] = Block {
-                mode: mode_of(fits, fold),
-                indent,
-            };
-            self.open += 1;
+        if !self.blocks.is_full() {
+            let base = self.base(opening.anchor);
+            self.blocks.push(Block {
+                fold: fold_of(fits, opening.fold),
+                indent: indentation(base, opening.offset, self.margin),
+            });
         }
     }
 
     // The last open block ends. Where none is open, nothing changes.
     pub fn end_block(&mut self)
-        ensures { (m : ℕ) (pen : LayoutPen) (out : List ℕ) (fits : Bool) → At m pen out self.old → At m (after m pen Ending fits) out self.new }
+        ensures { (m : ℕ) (pen : LayoutPen) (out : List ℕ) (fits : Bool) → At m pen out self.old → At m (after m pen EndingToken fits) out self.new }
     {
-        self.open = self.open.saturating_sub(1);
+        self.blocks.pop();
     }
 
     // The innermost open block, or the outermost one where none is open.
     fn current(&self) -> Block
         ensures { result ≡ innermost (open_blocks self.now) }
     {
-        if self.open == 0 {
-            Block {
-                mode: Mode::All,
-                indent: 0,
-            }
-        } else {
-            self.blocks[self.open - 1]
-        }
+        self.blocks
+            .as_slice()
+            .last()
+            .copied()
+            .unwrap_or(Block::OUTERMOST)
     }
 
     // The base of the indentation of a block that opens here.
@@ -126,12 +119,8 @@ impl Pen {
 }
 
 // A block that fits lies flat, any other has its own fold.
-fn mode_of(fits: bool, fold: Fold) -> Mode
-    ensures { result ≡ mode_of fits fold }
+fn fold_of(fits: bool, fold: Fold) -> Option<Fold>
+    ensures { result ≡ fold_of fits fold }
 {
-    match (fits, fold) {
-        (true, _) => Mode::Flat,
-        (false, Fold::All) => Mode::All,
-        (false, Fold::Each) => Mode::Each,
-    }
+    (!fits).then_some(fold)
 }
