@@ -9,7 +9,7 @@ use crate::sink::Sink;
 // The most bytes of a buffer that a window uses.
 pub const MOST: usize = 32_768;
 
-// The text is the first `len` bytes of the buffer. The two stay apart, here and in `Filled`: the buffer is lent, and its lender gets it back whole.
+// The text is the first `len` bytes of the buffer. The two stay apart, here and in `Filled`: the buffer is lent, and goes back whole.
 #[derive(Drop)]
 pub struct Window<'a> {
     buffer: &'a mut [u8],

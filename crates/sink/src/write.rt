@@ -1,7 +1,5 @@
 // Writes runs of bytes into any sink: all of a run, or up to the first byte that the sink's rule does not admit, with the fault of that
 // byte. What stands in the sink then is the text before and what the rule keeps of the run.
-//
-// The sink and the length of the older text stay two parameters: a struct that borrows the sink for each call is no plainer.
 
 ghost use Rattle.std.specs.Prelude.{◌≡◌, [], ◌∷◌, ◌++◌, replicate};
 ghost use Rattle.sink.specs.Fault.{fault_for, Answers, Leaves};
@@ -33,7 +31,8 @@ fn write_byte<S: Sink>(sink: &mut S, older: usize, byte: u8) -> Result<(), SinkF
     sink.put(byte).map_err(|refusal| sink_fault::<S>(refusal, sink.len().saturating_sub(older)))
 }
 
-// Writes a run of bytes. `older` is the length of the text that stood before this print.
+// Writes a run of bytes. `older` is the length of the text that stood before this print; it and the sink stay two parameters, since a struct
+// that borrows the sink for each call is no plainer.
 pub fn write<S: Sink>(sink: &mut S, older: usize, bytes: &[u8]) -> Result<(), SinkFault>
     ensures later { S.Sink.later sink.old sink.new }
     ensures text { Leaves S.Sink.text S.Sink.rule sink.old bytes.now sink.new }
