@@ -1,3 +1,3 @@
-pub mod Entries
 pub mod Sorts
 pub mod Escapes
+pub mod Begun

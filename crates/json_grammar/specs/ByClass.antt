@@ -1,33 +1,10 @@
 -- What the rules say of a byte, said of its class.
-use Rattle.std.specs.Prelude.{ℕ, Bool, cond, ◌||◌, ◌==◌}
+use Rattle.std.specs.Prelude.{Bool, ◌||◌}
 use Rattle.rules.specs.Language.{is_blank}
 use Rattle.json_language.specs.declared.class.Class.{Class}
 use Rattle.json_language.specs.declared.class.Class.TheVariants.{Control, Blank, Space, Quote, Backslash, OpenArray, CloseArray, OpenObject, CloseObject, Comma, Colon, Minus, Plus, Point, Zero, Digit, Exponent, Letter, Other}
 use Rattle.json_language.specs.Words.{Sort, begin_array, end_array, begin_object, end_object, value_separator, name_separator, string, number, literal, no_word, adjoins}
 use Rattle.json_language.specs.Rules.{begins_in}
-
--- the class with a number; only the numbers of classes count
-abbrev pub numbered : ℕ → Class
-numbered n =
-    cond (n == 0) Control
-    (cond (n == 1) Blank
-    (cond (n == 2) Space
-    (cond (n == 3) Quote
-    (cond (n == 4) Backslash
-    (cond (n == 5) OpenArray
-    (cond (n == 6) CloseArray
-    (cond (n == 7) OpenObject
-    (cond (n == 8) CloseObject
-    (cond (n == 9) Comma
-    (cond (n == 10) Colon
-    (cond (n == 11) Minus
-    (cond (n == 12) Plus
-    (cond (n == 13) Point
-    (cond (n == 14) Zero
-    (cond (n == 15) Digit
-    (cond (n == 16) Exponent
-    (cond (n == 17) Letter
-    Other)))))))))))))))))
 
 -- the sort of a word with a first byte of this class
 abbrev pub sort_in : Class → Sort

@@ -11,16 +11,17 @@ use crate::numbers::{number_turn, number_whole};
 use crate::places::{class_lead, class_moves};
 use crate::strings::string_turn;
 use json_language::class::Class;
-use layout::token::{Anchor, Fold};
+use layout::token::{Anchor, Break, Fold, Opening};
 use rules::escape::escape_of;
 use rules::language::Language;
-use rules::place::{BlockForm, Bracket, Expects, Lead, Move};
+use rules::place::{Expects, Move, Spot};
 use rules::word::{Begin, Inside, Kind, Part, Turn};
 
 // The language JSON: a value, which may be an array or an object of values.
 #[derive(Clone, Copy)]
 pub struct Json;
 
+#[tactic(auto, using(crate::proofs::Sorts::sort_class, crate::proofs::Sorts::delimits_class))]
 impl Language for Json {
     ghost rules = { json_rules };
 
@@ -66,16 +67,16 @@ impl Language for Json {
         class_delimits(class_of(byte))
     }
 
-    fn moves(expects: Expects, innermost: Option<Bracket>, first: u8) -> Option<Move> {
-        class_moves(expects, innermost, class_of(first))
+    fn moves(spot: Spot, first: u8) -> Option<Move> {
+        class_moves(spot, class_of(first))
     }
 
-    fn lead(expects: Expects, first: u8) -> Option<Lead> {
+    fn lead(expects: Expects, first: u8) -> Option<Break> {
         class_lead(expects, class_of(first))
     }
 
-    fn block() -> BlockForm {
-        BlockForm {
+    fn block() -> Opening {
+        Opening {
             offset: 2,
             fold: Fold::All,
             anchor: Anchor::Indent,
@@ -94,7 +95,7 @@ impl Language for Json {
     }
 
     fn ends(expects: Expects) -> bool {
-        matches!(expects, Expects::After)
+        expects == Expects::After
     }
 }
 
@@ -118,9 +119,16 @@ fn class_kind(first: Class) -> Kind
 fn class_delimits(class: Class) -> bool
     ensures { result ≡ delimits_in class }
 {
-    match class {
-        Class::Blank | Class::Space | Class::Quote | Class::Comma | Class::Colon => true,
-        Class::OpenArray | Class::CloseArray | Class::OpenObject | Class::CloseObject => true,
-        _ => false,
-    }
+    matches!(
+        class,
+        Class::Blank
+            | Class::Space
+            | Class::Quote
+            | Class::Comma
+            | Class::Colon
+            | Class::OpenArray
+            | Class::CloseArray
+            | Class::OpenObject
+            | Class::CloseObject
+    )
 }

@@ -17,8 +17,9 @@ fn number_part(part: Part, class: Class) -> Option<Part>
         (Part::Point | Part::Fraction, Class::Zero | Class::Digit) => Some(Part::Fraction),
         (Part::Zero | Part::Integer | Part::Fraction, Class::Exponent) => Some(Part::Letter),
         (Part::Letter, Class::Minus | Class::Plus) => Some(Part::Sign),
-        (Part::Letter | Part::Sign, Class::Zero | Class::Digit) => Some(Part::Exponent),
-        (Part::Exponent, Class::Zero | Class::Digit) => Some(Part::Exponent),
+        (Part::Letter | Part::Sign | Part::Exponent, Class::Zero | Class::Digit) => {
+            Some(Part::Exponent)
+        }
         _ => None,
     }
 }

@@ -4,15 +4,15 @@ ghost use Rattle.json_language.specs.Rules.{as_value, item_or_name, as_string, a
 ghost use Rattle.json_grammar.specs.ByClass.{sort_in};
 
 use json_language::class::Class;
-use rules::place::{Bracket, Expects, Lead, Move};
+use layout::token::Break;
+use rules::place::{Bracket, Expects, Move, Spot};
 
 // A value may stand where a value must come, and in an array where nothing or a comma stands before.
-fn as_value(expects: Expects, innermost: Option<Bracket>, does: Move) -> Option<Move>
-    ensures { result ≡ as_value expects innermost does }
+fn as_value(spot: Spot, does: Move) -> Option<Move>
+    ensures { result ≡ as_value spot.expects spot.innermost does }
 {
-    match (expects, innermost) {
-        (Expects::Value, _) => Some(does),
-        (Expects::First | Expects::Next, Some(Bracket::Array)) => Some(does),
+    match (spot.expects, spot.innermost) {
+        (Expects::Value, _) | (Expects::First | Expects::Next, Some(Bracket::Array)) => Some(does),
         _ => None,
     }
 }
@@ -21,79 +21,73 @@ fn as_value(expects: Expects, innermost: Option<Bracket>, does: Move) -> Option<
 fn item_or_name(innermost: Option<Bracket>) -> Option<Move>
     ensures { result ≡ item_or_name innermost }
 {
-    match innermost {
-        Some(Bracket::Array) => Some(Move::Within(Expects::After)),
-        Some(Bracket::Object) => Some(Move::Within(Expects::Colon)),
-        _ => None,
+    match innermost? {
+        Bracket::Array => Some(Move::Within(Expects::After)),
+        Bracket::Object => Some(Move::Within(Expects::Colon)),
+        Bracket::List => None,
     }
 }
 
 // A string may stand where a value may, and in an object where nothing or a comma stands before.
-fn as_string(expects: Expects, innermost: Option<Bracket>) -> Option<Move>
-    ensures { result ≡ as_string expects innermost }
+fn as_string(spot: Spot) -> Option<Move>
+    ensures { result ≡ as_string spot.expects spot.innermost }
 {
-    match expects {
-        Expects::First | Expects::Next => item_or_name(innermost),
+    match spot.expects {
+        Expects::First | Expects::Next => item_or_name(spot.innermost),
         Expects::Value => Some(Move::Within(Expects::After)),
         Expects::Colon | Expects::After => None,
     }
 }
 
 // A comma may stand behind a value in brackets.
-fn as_comma(expects: Expects, innermost: Option<Bracket>) -> Option<Move>
-    ensures { result ≡ as_comma expects innermost }
+fn as_comma(spot: Spot) -> Option<Move>
+    ensures { result ≡ as_comma spot.expects spot.innermost }
 {
-    match (expects, innermost) {
-        (Expects::After, Some(_)) => Some(Move::Within(Expects::Next)),
-        _ => None,
-    }
+    let stands = spot.expects == Expects::After && spot.innermost.is_some();
+    stands.then_some(Move::Within(Expects::Next))
 }
 
 // A colon may stand behind a name.
 fn as_colon(expects: Expects) -> Option<Move>
     ensures { result ≡ as_colon expects }
 {
-    match expects {
-        Expects::Colon => Some(Move::Within(Expects::Value)),
-        _ => None,
-    }
+    (expects == Expects::Colon).then_some(Move::Within(Expects::Value))
 }
 
-// A bracket of this kind closes one of the same.
+// A bracket of JSON closes one of the same kind.
 fn closes(bracket: Bracket, innermost: Option<Bracket>) -> Option<Move>
     ensures { result ≡ closes bracket innermost }
 {
-    match (bracket, innermost) {
-        (Bracket::Array, Some(Bracket::Array)) => Some(Move::Closes),
-        (Bracket::Object, Some(Bracket::Object)) => Some(Move::Closes),
+    match (bracket, innermost?) {
+        (Bracket::Array, Bracket::Array) | (Bracket::Object, Bracket::Object) => Some(Move::Closes),
         _ => None,
     }
 }
 
 // A closing bracket may stand behind the opening one, and behind a value.
-fn as_closing(bracket: Bracket, expects: Expects, innermost: Option<Bracket>) -> Option<Move>
-    ensures { result ≡ as_closing bracket expects innermost }
+fn as_closing(bracket: Bracket, spot: Spot) -> Option<Move>
+    ensures { result ≡ as_closing bracket spot.expects spot.innermost }
 {
-    match expects {
-        Expects::First | Expects::After => closes(bracket, innermost),
+    match spot.expects {
+        Expects::First | Expects::After => closes(bracket, spot.innermost),
         Expects::Next | Expects::Colon | Expects::Value => None,
     }
 }
 
-// What a word with a first byte of this class does at a place; none where it may not stand there.
-pub fn class_moves(expects: Expects, innermost: Option<Bracket>, first: Class) -> Option<Move>
-    ensures { result ≡ sort_moves (sort_in first) expects innermost }
+// What a word with a first byte of this class does at a spot; none where it may not stand there.
+pub fn class_moves(spot: Spot, first: Class) -> Option<Move>
+    ensures { result ≡ sort_moves (sort_in first) spot.expects spot.innermost }
 {
     match first {
-        Class::OpenArray => as_value(expects, innermost, Move::Opens(Bracket::Array)),
-        Class::OpenObject => as_value(expects, innermost, Move::Opens(Bracket::Object)),
-        Class::CloseArray => as_closing(Bracket::Array, expects, innermost),
-        Class::CloseObject => as_closing(Bracket::Object, expects, innermost),
-        Class::Comma => as_comma(expects, innermost),
-        Class::Colon => as_colon(expects),
-        Class::Quote => as_string(expects, innermost),
+        Class::OpenArray => as_value(spot, Move::Opens(Bracket::Array)),
+        Class::OpenObject => as_value(spot, Move::Opens(Bracket::Object)),
+        Class::CloseArray => as_closing(Bracket::Array, spot),
+        Class::CloseObject => as_closing(Bracket::Object, spot),
+        Class::Comma => as_comma(spot),
+        Class::Colon => as_colon(spot.expects),
+        Class::Quote => as_string(spot),
         Class::Minus | Class::Zero | Class::Digit | Class::Letter => {
-            as_value(expects, innermost, Move::Within(Expects::After))
+            as_value(spot, Move::Within(Expects::After))
         }
         _ => None,
     }
@@ -101,23 +95,15 @@ pub fn class_moves(expects: Expects, innermost: Option<Bracket>, first: Class) -
 
 // The Break before such a word: each first item or name has one without a blank, each later one has one with a blank,
 // and a closing bracket behind a value has one whose offset takes its block's back.
-pub fn class_lead(expects: Expects, first: Class) -> Option<Lead>
+pub fn class_lead(expects: Expects, first: Class) -> Option<Break>
     ensures { result ≡ sort_lead expects (sort_in first) }
 {
-    match (expects, first) {
-        (Expects::First, Class::CloseArray | Class::CloseObject) => None,
-        (Expects::First, _) => Some(Lead {
-            blanks: 0,
-            offset: 0,
-        }),
-        (Expects::Next, _) => Some(Lead {
-            blanks: 1,
-            offset: 0,
-        }),
-        (Expects::After, Class::CloseArray | Class::CloseObject) => Some(Lead {
-            blanks: 0,
-            offset: -2,
-        }),
-        _ => None,
-    }
+    let closing = matches!(first, Class::CloseArray | Class::CloseObject);
+    let (blanks, offset) = match expects {
+        Expects::First if !closing => (0, 0),
+        Expects::Next => (1, 0),
+        Expects::After if closing => (0, -2),
+        _ => return None,
+    };
+    Some(Break { blanks, offset })
 }

@@ -1,21 +1,7 @@
--- A rule of a table, proved at all of its entries by one computed test.
-use Rattle.std.proofs.Common.{ℕ, zero, suc, ◌<◌, Bool, true, false, ◌&&◌, T, List, [], ◌∷◌, length, get_or, le_of_suc-le-suc, not-suc-le-zero}
+-- A table that is the list of what a function gives at each index has it at any one.
+use Rattle.std.proofs.Common.{◌≡◌, ℕ, ◌<◌, List, map, get_or, ap, ◌∙◌, arith}
+use Rattle.std.specs.List.{range_with_len}
+use Rattle.std.proofs.lemmas.List.FromFn.{get_or-map-range_with_len}
 
-left : (a b : Bool) → T (a && b) → T a
-left true b t = tt
-left false b t = t
-
-right : (a b : Bool) → T (a && b) → T b
-right true b t = t
-right false b t = absurd t
-
--- the test passes at each place and its entry
-abbrev pub every : (ℕ → ℕ → Bool) → List ℕ → Bool
-every f [] = true
-every f (x ∷ xs) = f 0 x && every (λ i. f (suc i)) xs
-
--- so it passes at any one
-pub at : (f : ℕ → ℕ → Bool) (xs : List ℕ) → T (every f xs) → (i : ℕ) → i < length xs → T (f i (get_or xs i 0))
-at f [] t i h = absurd (not-suc-le-zero h)
-at f (x ∷ xs) t zero h = left (f 0 x) (every (λ i. f (suc i)) xs) t
-at f (x ∷ xs) t (suc i) h = at (λ i. f (suc i)) xs (right (f 0 x) (every (λ i. f (suc i)) xs) t) i (le_of_suc-le-suc h)
+pub at : {X : Type 0} (f : ℕ → X) (table : List X) (n i : ℕ) (d : X) → table ≡ map f (range_with_len 0 n) → i < n → get_or table i d ≡ f i
+at f table n i d e h = ap (λ xs. get_or xs i d) e ∙ get_or-map-range_with_len f 0 n i i d h (omega arith)

@@ -1,13 +1,14 @@
 // What the rules of S-expressions answer, by the class of each byte.
 ghost use Rattle.std.specs.Prelude.{◌≡◌};
-ghost use Rattle.sexpr_language.specs.Rules.{sexpr_rules, atom_turns, plain_turns, escape_turns, string_turns, class_moves, class_lead};
+ghost use Rattle.sexpr_language.specs.Classes.{class_of};
+ghost use Rattle.sexpr_language.specs.Rules.{sexpr_rules, atom_turns, escape_turns, string_turns, class_moves, class_lead};
 ghost use Rattle.sexpr_language.proofs.Lawfulness.{sexpr_rules_lawful};
 
 use crate::classes::class_of;
-use layout::token::{Anchor, Fold};
-use rules::escape::escape_of;
+use layout::token::{Anchor, Break, Fold, Opening};
+use rules::escape::{escape_of, unescaped_turn};
 use rules::language::Language;
-use rules::place::{BlockForm, Bracket, Expects, Lead, Move};
+use rules::place::{Bracket, Expects, Move, Spot};
 use rules::word::{Begin, Inside, Kind, Turn};
 use sexpr_language::class::Class;
 
@@ -41,14 +42,14 @@ impl Language for Sexpr {
 
     fn turns(inside: Inside, word: &[u8], byte: u8) -> Turn {
         match inside {
-            Inside::Quoted(n) => string_turns(escape_of(n, word), class_of(byte)),
+            Inside::Quoted(n) => string_turns(escape_of(n, word), byte),
             Inside::Atom => atom_turns(class_of(byte)),
             Inside::Number(_) | Inside::Literal => Turn::Never,
         }
     }
 
     fn whole(inside: Inside, word: &[u8]) -> bool {
-        matches!(inside, Inside::Atom)
+        inside == Inside::Atom
     }
 
     fn delimits(byte: u8) -> bool {
@@ -58,22 +59,22 @@ impl Language for Sexpr {
         )
     }
 
-    fn moves(expects: Expects, innermost: Option<Bracket>, first: u8) -> Option<Move> {
-        match expects {
-            Expects::First | Expects::After => class_moves(innermost, class_of(first)),
+    fn moves(spot: Spot, first: u8) -> Option<Move> {
+        match spot.expects {
+            Expects::First | Expects::After => class_moves(spot.innermost, class_of(first)),
             Expects::Next | Expects::Colon | Expects::Value => None,
         }
     }
 
-    fn lead(expects: Expects, first: u8) -> Option<Lead> {
+    fn lead(expects: Expects, first: u8) -> Option<Break> {
         match expects {
             Expects::After => class_lead(class_of(first)),
             Expects::First | Expects::Next | Expects::Colon | Expects::Value => None,
         }
     }
 
-    fn block() -> BlockForm {
-        BlockForm {
+    fn block() -> Opening {
+        Opening {
             offset: 1,
             fold: Fold::Each,
             anchor: Anchor::Column,
@@ -103,29 +104,18 @@ fn atom_turns(class: Class) -> Turn
     }
 }
 
-// What such a byte is in a string, behind the bytes of the escape under way: none, or a backslash.
-fn string_turns(escape: &[u8], class: Class) -> Turn
-    ensures { result ≡ string_turns escape.now class }
+// What a byte is in a string, behind the bytes of the escape under way: none, or a backslash.
+#[tactic(auto, using(crate::proofs::Strings::unescaped_class))]
+fn string_turns(escape: &[u8], byte: u8) -> Turn
+    ensures { result ≡ string_turns escape.now (class_of byte) }
 {
     match escape {
-        [] => plain_turns(class),
-        [_, ..] => escape_turns(class),
+        [] => unescaped_turn(byte),
+        [_, ..] => escape_turns(class_of(byte)),
     }
 }
 
-// What it is in a string where no escape is under way.
-fn plain_turns(class: Class) -> Turn
-    ensures { result ≡ plain_turns class }
-{
-    match class {
-        Class::Control | Class::Blank => Turn::Never,
-        Class::Quote => Turn::Closes,
-        Class::Backslash => Turn::Stays(Inside::Quoted(1)),
-        _ => Turn::Stays(Inside::Quoted(0)),
-    }
-}
-
-// What it is in a string, behind a backslash.
+// What a byte of this class is in a string, behind a backslash.
 fn escape_turns(class: Class) -> Turn
     ensures { result ≡ escape_turns class }
 {
@@ -142,23 +132,17 @@ fn class_moves(innermost: Option<Bracket>, first: Class) -> Option<Move>
     match first {
         Class::Quote | Class::Backslash | Class::Atom => Some(Move::Within(Expects::After)),
         Class::Open => Some(Move::Opens(Bracket::List)),
-        Class::Close => match innermost {
-            Some(_) => Some(Move::Closes),
-            None => None,
-        },
+        Class::Close => innermost.map(|_| Move::Closes),
         Class::Control | Class::Blank | Class::Space | Class::Barred => None,
     }
 }
 
 // The Break behind an expression: none before a closing parenthesis.
-fn class_lead(first: Class) -> Option<Lead>
+fn class_lead(first: Class) -> Option<Break>
     ensures { result ≡ class_lead first }
 {
-    match first {
-        Class::Close => None,
-        _ => Some(Lead {
-            blanks: 1,
-            offset: 0,
-        }),
-    }
+    (first != Class::Close).then_some(Break {
+        blanks: 1,
+        offset: 0,
+    })
 }

@@ -1,7 +1,9 @@
-use Rattle.std.proofs.Common.{ap, ◌∙◌}
-use Rattle.json_grammar.specs.ByClass.{numbered}
-use Rattle.json_grammar.proofs.Entries.{found_again}
+-- Each entry is its byte's class, since the table is what `class_of` gives at 0 to 255, which computing shows.
+use Rattle.std.proofs.Common.{refl, rules}
+use Rattle.rules.proofs.Table.{at}
+use Rattle.json_language.specs.Classes.{class_of}
+use Rattle.json_grammar.specs.declared.classes.TheConstants.{CLASSES}
 use Rattle.json_grammar.proofs.classes.class_of.Goals as goal
 
 pub returns : goal.returns
-returns c = c.class_named.ensures ∙ ap numbered c.class_number.ensures ∙ found_again _
+returns c = at class_of CLASSES 256 c.args.byte _ refl (search rules)

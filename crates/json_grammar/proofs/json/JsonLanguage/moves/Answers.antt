@@ -1,6 +1,0 @@
-use Rattle.std.proofs.Common.{rules}
-use Rattle.json_grammar.proofs.Sorts.{sort_class}
-use Rattle.json_grammar.proofs.json.JsonLanguage.moves.Goals as goal
-
-pub returns : goal.returns
-returns c = search (rules, sort_class)
