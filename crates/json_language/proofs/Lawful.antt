@@ -1,6 +1,6 @@
 -- The rules of JSON are lawful.
 use Rattle.std.proofs.Common.{◌≡◌, ℕ, Bool, true, false, cond, ◌||◌, eqb, ◌⊎◌, List, [], ◌∷◌, Some, None, codes, Option, refl, ap, subst, inl, inr, arith}
-use Rattle.std.proofs.lemmas.Bool.{both_ways, and_right, or_parts, or_from, cond_both, cond-false}
+use Rattle.std.proofs.lemmas.Bool.{false≢true, and_right, or_parts, or_from, cond_both, cond-false}
 use Rattle.std.proofs.lemmas.Bool.Decides.{nat_tests}
 use Rattle.grammar.specs.Meaning.{Word}
 use Rattle.rules.specs.declared.word.Part.{Part}
@@ -69,22 +69,22 @@ after_literal w b (inr (inl e)) = rw e
 after_literal w b (inr (inr e)) = rw e
 
 after_number : (p : Part) (c : Class) → number_whole p ≡ true → digits c ≡ false → is PointByte c ≡ false → is ExponentByte c ≡ false → number_part p c ≡ None
-after_number Minus c h d p e = absurd (both_ways false refl h)
+after_number Minus c h d p e = absurd (false≢true h)
 after_number Zero c h d p e = rw (p, e)
 after_number Integer c h d p e = rw (d, p, e)
-after_number Point c h d p e = absurd (both_ways false refl h)
+after_number Point c h d p e = absurd (false≢true h)
 after_number Fraction c h d p e = rw (d, e)
-after_number Letter c h d p e = absurd (both_ways false refl h)
-after_number Sign c h d p e = absurd (both_ways false refl h)
+after_number Letter c h d p e = absurd (false≢true h)
+after_number Sign c h d p e = absurd (false≢true h)
 after_number Exponent c h d p e = rw d
 
 delimiter : (i : Inside) (w : Word) (b : ℕ) → json_whole i w ≡ true → delimits b ≡ true → json_turns i w b ≡ Never
-delimiter (Quoted n) w b h d = absurd (both_ways false refl h)
+delimiter (Quoted n) w b h d = absurd (false≢true h)
 delimiter (Number p) w b h d =
     let (no_digit, no-point, no-e) = delimiter_class b d in
     ap number_turn (after_number p (class_of b) h no_digit no-point no-e)
 delimiter Literal w b h d = cond-false (literal_goes_on w b) (Stays Literal) Never (after_literal w b ((whole_literal w).0 h))
-delimiter Atom w b h d = absurd (both_ways false refl h)
+delimiter Atom w b h d = absurd (false≢true h)
 
 sole : (b : ℕ) → begins_in (class_of b) ≡ Sole → loose (kind_of b) ≡ false
 sole b h = grind (arith, nat_tests)

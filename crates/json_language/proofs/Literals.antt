@@ -1,7 +1,7 @@
 -- Literals: the rules let a literal go on while it begins one of the three words, and end where it is one.
 use Rattle.std.proofs.Common.{◌≡◌, ℕ, Bool, true, false, cond, ◌||◌, eqb, ◌⊎◌, List, [], ◌∷◌, ◌++◌, codes, Decides, sym, refl, ap, subst, ap₂, inl, inr, append_assoc}
 use Rattle.std.proofs.lemmas.List.{append-nil}
-use Rattle.std.proofs.lemmas.Bool.{both_ways, eqb-true, eq-eqb, and_parts, and_from}
+use Rattle.std.proofs.lemmas.Bool.{false≢true, eqb-true, eq-eqb, and_parts, and_from}
 use Rattle.std.proofs.lemmas.Bool.Decides.{Decides-or}
 use Rattle.grammar.specs.Meaning.{Word}
 use Rattle.rules.specs.declared.word.Inside.{Inside}
@@ -21,8 +21,8 @@ same_word c w = (sound c w, λ e. subst (λ v. same c v ≡ true) (sym e) (itsel
   where
     sound : (c w : List ℕ) → same c w ≡ true → w ≡ c
     sound [] [] h = refl
-    sound [] (x ∷ w) h = absurd (both_ways false refl h)
-    sound (y ∷ c) [] h = absurd (both_ways false refl h)
+    sound [] (x ∷ w) h = absurd (false≢true h)
+    sound (y ∷ c) [] h = absurd (false≢true h)
     sound (y ∷ c) (x ∷ w) h = let p = and_parts (eqb x y) (same c w) h in ap₂ ◌∷◌ (eqb-true x y p.0) (sound c w p.1)
 
     itself : (c : List ℕ) → same c c ≡ true
@@ -40,7 +40,7 @@ goes_word : (c w : List ℕ) (b : ℕ) → Decides (goes_on c w b) (Begins (w ++
 goes_word c w b = (sound c w, λ p. subst (λ d. goes_on d w b ≡ true) p.1 (front w p.0))
   where
     sound : (c w : List ℕ) → goes_on c w b ≡ true → Begins (w ++ b ∷ []) c
-    sound [] w h = absurd (both_ways false refl h)
+    sound [] w h = absurd (false≢true h)
     sound (y ∷ c) [] h = (c, ap (λ (x : ℕ). x ∷ c) (eqb-true b y h))
     sound (y ∷ c) (x ∷ w) h =
         let p = and_parts (eqb x y) (goes_on c w b) h in
@@ -73,7 +73,7 @@ goes_literal w b =
 -- the rules let a literal go on with these bytes exactly where they make it whole
 stays_literal : (f : Inside → Bool) (last t : Bool) → spelled_turn f last (cond t (Stays Literal) Never) ≡ true → f Literal ≡ true
 stays_literal f last true h = h
-stays_literal f last false h = absurd (both_ways false refl h)
+stays_literal f last false h = absurd (false≢true h)
 
 pub literal_sound : (w bs : List ℕ) → spelled_on json_rules Literal w bs ≡ true → IsLiteral (w ++ bs)
 literal_sound w [] h = rw (append-nil w) ((whole_literal w).0 h)

@@ -1,6 +1,6 @@
 -- Numbers: what may follow each part of a number is what the rules let follow it.
 use Rattle.std.proofs.Common.{◌≡◌, ℕ, Bool, true, false, ◌||◌, List, [], ◌∷◌, ◌++◌, Some, None, Option, sym, refl, subst, inl, inr, arith}
-use Rattle.std.proofs.lemmas.Bool.{both_ways}
+use Rattle.std.proofs.lemmas.Bool.{false≢true}
 use Rattle.std.proofs.lemmas.Bool.Decides.{nat_tests}
 use Rattle.grammar.specs.Meaning.{Word}
 use Rattle.rules.specs.declared.word.Part.{Part}
@@ -80,13 +80,13 @@ back Exponent b bs = back_to (digits (class_of b)) Exponent None bs (digit_class
 
 -- nothing more may come exactly behind a part that ends a number
 ends_sound : (p : Part) → number_whole p ≡ true → Rest p []
-ends_sound Minus h = absurd (both_ways false refl h)
+ends_sound Minus h = absurd (false≢true h)
 ends_sound Zero h = inr (inr tt)
 ends_sound Integer h = none (inr (inr tt))
-ends_sound Point h = absurd (both_ways false refl h)
+ends_sound Point h = absurd (false≢true h)
 ends_sound Fraction h = none (inr tt)
-ends_sound Letter h = absurd (both_ways false refl h)
-ends_sound Sign h = absurd (both_ways false refl h)
+ends_sound Letter h = absurd (false≢true h)
+ends_sound Sign h = absurd (false≢true h)
 ends_sound Exponent h = none tt
 
 ends_complete : (p : Part) → Rest p [] → number_whole p ≡ true
@@ -106,7 +106,7 @@ abbrev Spells : Option Part → Word → List ℕ → Bool
 Spells o v bs = spelled_turn (λ j. spelled_on json_rules j v bs) (none_left bs) (number_turn o)
 
 goes_sound : (o : Option Part) (v : Word) (bs : List ℕ) → ((q : Part) → spelled_on json_rules (Number q) v bs ≡ true → Rest q bs) → Spells o v bs ≡ true → RestIf o bs
-goes_sound None v bs f h = absurd (both_ways false refl h)
+goes_sound None v bs f h = absurd (false≢true h)
 goes_sound (Some q) v bs f h = f q h
 
 pub number_sound : (p : Part) (w : Word) (bs : List ℕ) → spelled_on json_rules (Number p) w bs ≡ true → Rest p bs

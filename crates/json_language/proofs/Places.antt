@@ -1,6 +1,6 @@
 -- Places: what a word does there, checked case by case, and how a document can be finished from each.
 use Rattle.std.proofs.Common.{◌≡◌, ℕ, zero, suc, Bool, true, false, not, ◌&&◌, ◌||◌, List, [], ◌∷◌, Some, None, Option, refl, ap, subst, inr, arith}
-use Rattle.std.proofs.lemmas.Bool.{both_ways, and_parts, cond_both, or_right}
+use Rattle.std.proofs.lemmas.Bool.{false≢true, and_parts, cond_both, or_right}
 use Rattle.grammar.specs.Meaning.{Word}
 use Rattle.rules.specs.declared.place.Bracket.{Bracket}
 use Rattle.rules.specs.declared.place.Bracket.TheVariants.{Array, Object, List as ListBracket}
@@ -94,7 +94,7 @@ moves_sane : (s : Sort) (e : Expects) (k : Option Bracket) → sane_move k (sort
 moves_sane = checked (λ s e k. sane_move k (sort_moves s e k)) refl
 
 pub none_closed : (e : Expects) (s : Sort) → sort_moves s e None ≡ Some Closes → ⊥
-none_closed e s h = both_ways false refl (subst (λ o. sane_move None o ≡ true) h (moves_sane s e None))
+none_closed e s h = false≢true (subst (λ o. sane_move None o ≡ true) h (moves_sane s e None))
 
 -- what a word does shows in its kind
 pub sort_shows : (s : Sort) (e : Expects) (k : Option Bracket) → fits_kind (kind_as s) (sort_moves s e k) ≡ true
@@ -112,17 +112,17 @@ only_after (Some (Opens k)) = false
 only_after (Some Closes) = false
 
 is_after : (m : Move) → only_after (Some m) ≡ true → m ≡ Within After
-is_after (Within First) h = absurd (both_ways false refl h)
-is_after (Within Next) h = absurd (both_ways false refl h)
-is_after (Within Colon) h = absurd (both_ways false refl h)
-is_after (Within Value) h = absurd (both_ways false refl h)
+is_after (Within First) h = absurd (false≢true h)
+is_after (Within Next) h = absurd (false≢true h)
+is_after (Within Colon) h = absurd (false≢true h)
+is_after (Within Value) h = absurd (false≢true h)
 is_after (Within After) h = refl
-is_after (Opens k) h = absurd (both_ways false refl h)
-is_after Closes h = absurd (both_ways false refl h)
+is_after (Opens k) h = absurd (false≢true h)
+is_after Closes h = absurd (false≢true h)
 
 implied : (x y : Bool) → (not x || y) ≡ true → x ≡ true → y ≡ true
 implied true y h e = h
-implied false y h e = absurd (both_ways false refl e)
+implied false y h e = absurd (false≢true e)
 
 pub loose_after : (s : Sort) (e : Expects) (k : Option Bracket) (m : Move) → loose (kind_as s) ≡ true → sort_moves s e k ≡ Some m → m ≡ Within After
 loose_after s e k m l h =
@@ -138,8 +138,8 @@ stays_within (Some Closes) = false
 
 is_within : (m : Move) → stays_within (Some m) ≡ true → (e : Expects) × (m ≡ Within e)
 is_within (Within e) h = (e, refl)
-is_within (Opens k) h = absurd (both_ways false refl h)
-is_within Closes h = absurd (both_ways false refl h)
+is_within (Opens k) h = absurd (false≢true h)
+is_within Closes h = absurd (false≢true h)
 
 pub string_within : (e : Expects) (k : Option Bracket) (m : Move) → sort_moves string e k ≡ Some m → (x : Expects) × (m ≡ Within x)
 string_within e k m h =
@@ -211,7 +211,7 @@ closers_fit : (ks : List Bracket) → OfJson ks → parses json_rules (place Aft
 closers_fit [] h = refl
 closers_fit (Array ∷ ks) h = closers_fit ks h.1
 closers_fit (Object ∷ ks) h = closers_fit ks h.1
-closers_fit (ListBracket ∷ ks) h = absurd (both_ways false refl h.0)
+closers_fit (ListBracket ∷ ks) h = absurd (false≢true h.0)
 
 -- 0, a colon, an empty string
 abbrev a_zero : Word
@@ -224,18 +224,18 @@ abbrev an_empty_string : Word
 an_empty_string = 0x22 ∷ (0x22 ∷ [])
 
 close : (e : Expects) (ks : List Bracket) → Sane (place e ks) → Closing json_rules (place e ks)
-close First [] s = absurd (both_ways false refl s.0)
+close First [] s = absurd (false≢true s.0)
 close First (Array ∷ ks) s = record { closing_words = closers (Array ∷ ks); good = closers_good (Array ∷ ks); fits = closers_fit (Array ∷ ks) s.1 }
 close First (Object ∷ ks) s = record { closing_words = closers (Object ∷ ks); good = closers_good (Object ∷ ks); fits = closers_fit (Object ∷ ks) s.1 }
-close First (ListBracket ∷ ks) s = absurd (both_ways false refl s.1.0)
-close Next [] s = absurd (both_ways false refl s.0)
+close First (ListBracket ∷ ks) s = absurd (false≢true s.1.0)
+close Next [] s = absurd (false≢true s.0)
 close Next (Array ∷ ks) s = record { closing_words = a_zero ∷ closers (Array ∷ ks); good = (refl, closers_good (Array ∷ ks)); fits = closers_fit (Array ∷ ks) s.1 }
 close Next (Object ∷ ks) s = record {
   closing_words = an_empty_string ∷ (a_colon ∷ (a_zero ∷ closers (Object ∷ ks)));
   good = (refl, (refl, (refl, closers_good (Object ∷ ks))));
   fits = closers_fit (Object ∷ ks) s.1;
 }
-close Next (ListBracket ∷ ks) s = absurd (both_ways false refl s.1.0)
+close Next (ListBracket ∷ ks) s = absurd (false≢true s.1.0)
 close Colon ks s = record { closing_words = a_colon ∷ (a_zero ∷ closers ks); good = (refl, (refl, closers_good ks)); fits = closers_fit ks s.1 }
 close Value ks s = record { closing_words = a_zero ∷ closers ks; good = (refl, closers_good ks); fits = closers_fit ks s.1 }
 close After ks s = record { closing_words = closers ks; good = closers_good ks; fits = closers_fit ks s.1 }

@@ -1,7 +1,7 @@
 -- Words are those of a value exactly where the rules let them stand in that order.
-use Rattle.std.proofs.Common.{◌≡◌, Bool, true, false, ◌&&◌, leb, List, [], ◌∷◌, length, Some, None, Option, sym, refl, ap, ◌∙◌, subst}
+use Rattle.std.proofs.Common.{◌≡◌, Bool, true, ◌&&◌, leb, List, [], ◌∷◌, length, Some, None, Option, sym, refl, ap, ◌∙◌, subst}
 use lib.Dec.{leb-suc-zero}
-use Rattle.std.proofs.lemmas.Bool.{both_ways}
+use Rattle.std.proofs.lemmas.Bool.{both_ways, false≢true}
 use Rattle.grammar.specs.Meaning.{Word}
 use Rattle.rules.specs.declared.place.Bracket.{Bracket}
 use Rattle.rules.specs.declared.place.Bracket.TheVariants.{Array, Object, List as ListBracket}
@@ -244,15 +244,15 @@ a_word no_word e ks ss f = absurd f
 
 -- words that may stand in this order are what may come
 at_end : (e : Expects) (ks : List Bracket) → fit (place e ks) [] ≡ true → Fills e ks []
-at_end First ks h = absurd (both_ways false refl h)
-at_end Next ks h = absurd (both_ways false refl h)
-at_end Colon ks h = absurd (both_ways false refl h)
-at_end ValueNext ks h = absurd (both_ways false refl h)
+at_end First ks h = absurd (false≢true h)
+at_end Next ks h = absurd (false≢true h)
+at_end Colon ks h = absurd (false≢true h)
+at_end ValueNext ks h = absurd (false≢true h)
 at_end After [] h = refl
 at_end After (k ∷ ks) h = absurd (both_ways (leb (length (k ∷ ks)) 0) (leb-suc-zero (length ks)) h)
 
 moves_on : (o : Option Move) (p : Place) (ss : List Sort) → ((q : Place) → fit q ss ≡ true → FillsAt q ss) → (is_some o && fit (placed o p) ss) ≡ true → Moves o p.brackets ss
-moves_on None p ss on h = absurd (both_ways false refl h)
+moves_on None p ss on h = absurd (false≢true h)
 moves_on (Some m) p ss on h = on (moved m p.brackets) h
 
 fills : (ss : List Sort) (p : Place) → fit p ss ≡ true → FillsAt p ss

@@ -1,6 +1,6 @@
 -- A word is spelled as JSON has it exactly where the rules say so.
-use Rattle.std.proofs.Common.{◌≡◌, ℕ, true, false, List, [], ◌∷◌, Decides, sym, refl, subst, inl, inr, arith}
-use Rattle.std.proofs.lemmas.Bool.{both_ways, cond_both}
+use Rattle.std.proofs.Common.{◌≡◌, ℕ, true, List, [], ◌∷◌, Decides, sym, refl, subst, inl, inr, arith}
+use Rattle.std.proofs.lemmas.Bool.{false≢true, cond_both}
 use Rattle.std.proofs.lemmas.Bool.Decides.{nat_tests}
 use Rattle.grammar.specs.Meaning.{Word}
 use Rattle.rules.specs.declared.word.Part.{Part}
@@ -17,7 +17,7 @@ use Rattle.json_language.proofs.Literals.{literal_sound, literal_complete}
 -- a word of one byte
 alone : (w : List ℕ) → Decides (none_left w) (End w)
 alone [] = (λ h. tt, λ r. refl)
-alone (b ∷ w) = (λ h. absurd (both_ways false refl h), λ r. absurd r)
+alone (b ∷ w) = (λ h. absurd (false≢true h), λ r. absurd r)
 
 -- what follows a number's first byte
 first_to : (q : Part) (b : ℕ) (w : List ℕ) → first_part b ≡ q → Rest q w → Rest (first_part b) w
@@ -37,7 +37,7 @@ first_back b w e =
     (λ nz r. inr (inr (grind (arith, nat_tests), r))))
 
 no_spelling : (b : ℕ) (w : List ℕ) → spelled_begin json_rules b w (begin_as no_word b) ≡ true → ⊥
-no_spelling b w = cond_both (blank b) Blank Never (λ t. spelled_begin json_rules b w t ≡ true → ⊥) (λ _ h. both_ways false refl h) (λ _ h. both_ways false refl h)
+no_spelling b w = cond_both (blank b) Blank Never (λ t. spelled_begin json_rules b w t ≡ true → ⊥) (λ _ h. false≢true h) (λ _ h. false≢true h)
 
 spelled_as : (s : Sort) (b : ℕ) (w : List ℕ) → sort_of b ≡ s → Decides (spelled_begin json_rules b w (begin_as s b)) (SpelledAs s b w)
 spelled_as begin_array b w e = alone w
@@ -52,5 +52,5 @@ spelled_as literal b w e = (literal_sound (b ∷ []) w, literal_complete (b ∷ 
 spelled_as no_word b w e = (no_spelling b w, λ r. absurd r)
 
 pub spelling : (w : Word) → Decides (spelled json_rules w) (Spelled w)
-spelling [] = (λ h. both_ways false refl h, λ r. absurd r)
+spelling [] = (λ h. false≢true h, λ r. absurd r)
 spelling (b ∷ w) = rw (begins_by_sort b) (spelled_as (sort_of b) b w refl)

@@ -1,7 +1,7 @@
 -- Strings: what may follow the bytes of a string is what the rules let follow them.
 use Rattle.std.proofs.Common.{◌≡◌, ℕ, ◌-◌, true, false, cond, ◌||◌, eqb, leb, List, [], ◌∷◌, ◌++◌, length, Decides, sym, refl, ◌∙◌, subst, append_assoc, arith}
 use Rattle.std.proofs.lemmas.List.{length-append, drop_at, append-nil}
-use Rattle.std.proofs.lemmas.Bool.{both_ways, eqb-true, cond_both}
+use Rattle.std.proofs.lemmas.Bool.{both_ways, false≢true, true≢false, eqb-true, cond_both}
 use Rattle.std.proofs.lemmas.Bool.Decides.{nat_tests}
 use Rattle.grammar.specs.Meaning.{Word}
 use Rattle.rules.specs.declared.word.Inside.TheVariants.{Quoted}
@@ -33,8 +33,8 @@ abbrev Four : Lang
 Four = one hexadecimal (one hexadecimal (one hexadecimal (one hexadecimal StringRest)))
 
 four : (bs : List ℕ) → StringRest (0x5C ∷ (0x75 ∷ bs)) → Four bs
-four bs (plain b h r) = absurd (both_ways false refl h)
-four bs (escape b h r) = absurd (both_ways false refl h)
+four bs (plain b h r) = absurd (false≢true h)
+four bs (escape b h r) = absurd (false≢true h)
 four bs (unicode a b c d ha hb hc hd r) = (ha, (hb, (hc, (hd, r))))
 
 -- no string ends in an escape under way
@@ -56,27 +56,27 @@ pub data Turned (e : List ℕ) (b : ℕ) : Turn → Type 0 where
 
 ends_string : (bs : List ℕ) → Decides (none_left bs) (StringRest (0x22 ∷ bs))
 ends_string [] = (λ _. quotation_mark, λ _. refl)
-ends_string (b ∷ bs) = (λ h. absurd (both_ways false refl h), after)
+ends_string (b ∷ bs) = (λ h. absurd (false≢true h), after)
   where
     after : StringRest (0x22 ∷ (b ∷ bs)) → false ≡ true
     after (plain c h r) = h
 
 not_low : (b : ℕ) (bs : List ℕ) → leb 0x20 b ≡ false → StringRest (b ∷ bs) → ⊥
-not_low b bs h quotation_mark = both_ways true h refl
+not_low b bs h quotation_mark = true≢false h
 not_low b bs h (plain c q r) = grind (arith, nat_tests)
-not_low b bs h (escape c q r) = both_ways true h refl
-not_low b bs h (unicode x y z v hx hy hz hv r) = both_ways true h refl
+not_low b bs h (escape c q r) = true≢false h
+not_low b bs h (unicode x y z v hx hy hz hv r) = true≢false h
 
 after_plain : (b : ℕ) (bs : List ℕ) → unescaped b ≡ true → StringRest (b ∷ bs) → StringRest bs
-after_plain b bs h quotation_mark = absurd (both_ways false refl h)
+after_plain b bs h quotation_mark = absurd (false≢true h)
 after_plain b bs h (plain c q r) = r
-after_plain b bs h (escape c q r) = absurd (both_ways false refl h)
-after_plain b bs h (unicode x y z v hx hy hz hv r) = absurd (both_ways false refl h)
+after_plain b bs h (escape c q r) = absurd (false≢true h)
+after_plain b bs h (unicode x y z v hx hy hz hv r) = absurd (false≢true h)
 
 escapes : (b : ℕ) (bs : List ℕ) → eqb b 0x75 ≡ false → StringRest (0x5C ∷ (b ∷ bs)) → (escapable b ≡ true) × StringRest bs
-escapes b bs h (plain c q r) = absurd (both_ways false refl q)
+escapes b bs h (plain c q r) = absurd (false≢true q)
 escapes b bs h (escape c q r) = (q, r)
-escapes b bs h (unicode x y z v hx hy hz hv r) = absurd (both_ways true h refl)
+escapes b bs h (unicode x y z v hx hy hz hv r) = absurd (true≢false h)
 
 by_hexadecimal : (e : List ℕ) (b : ℕ) (t : Turn) → (hexadecimal b ≡ true → Turned e b t) → ((bs : List ℕ) → StringRest (e ++ b ∷ bs) → hexadecimal b ≡ true) → Turned e b (cond (hexadecimal b) t Never)
 by_hexadecimal e b t goes only = cond_both (hexadecimal b) t Never (Turned e b) goes (λ h. never (λ bs r. both_ways (hexadecimal b) h (only bs r)))
@@ -119,8 +119,8 @@ spells_turn bs w e b on t (longer x) = rw (append_assoc w e (b ∷ []), ← appe
 spells_turn bs w e b on t (done make unmake) =
     let d = rw (append-nil ((w ++ e) ++ b ∷ [])) at (on ((w ++ e) ++ b ∷ []) [] no_escape) in
     (λ h. make bs (d.0 h), λ r. d.1 (unmake bs r))
-spells_turn bs w e b on t (never n) = (λ h. absurd (both_ways false refl h), λ r. absurd (n bs r))
+spells_turn bs w e b on t (never n) = (λ h. absurd (false≢true h), λ r. absurd (n bs r))
 
 pub string_spells : (bs : List ℕ) (w e : List ℕ) → Escape e → Spells bs w e
-string_spells [] w e x = (λ h. absurd (both_ways false refl h), λ r. absurd (unfinished e x r))
+string_spells [] w e x = (λ h. absurd (false≢true h), λ r. absurd (unfinished e x r))
 string_spells (b ∷ bs) w e x = rw (escape_of_end w e) (spells_turn bs w e b (string_spells bs) (string_turn e b) (turned e b x))

@@ -1,7 +1,7 @@
 -- Words under way: what is known of their bytes, and how they can be finished.
 use Rattle.std.proofs.Common.{◌≡◌, ℕ, true, false, List, [], ◌∷◌, ◌++◌, length, Some, None, Option, sym, refl, ap, ◌∙◌, subst, ap₂, append_assoc, arith}
 use Rattle.std.proofs.lemmas.List.{append-nil}
-use Rattle.std.proofs.lemmas.Bool.{both_ways, cond_both}
+use Rattle.std.proofs.lemmas.Bool.{false≢true, cond_both}
 use Rattle.std.proofs.lemmas.Bool.Decides.{nat_tests}
 use Rattle.grammar.specs.Meaning.{Word}
 use Rattle.rules.specs.declared.word.Part.{Part}
@@ -103,7 +103,7 @@ closing_not_loose Literal b c w k h =
 closing_not_loose Atom b c w k h = absurd k
 
 pub whole_loose : (i : Inside) (b : ℕ) (w : Word) → Known i (b ∷ w) → json_whole i (b ∷ w) ≡ true → loose (kind_of b) ≡ true
-whole_loose (Quoted n) b w k h = absurd (both_ways false refl h)
+whole_loose (Quoted n) b w k h = absurd (false≢true h)
 whole_loose (Number p) b w s h = rw s
 whole_loose Literal b w (s, k) h = rw s
 whole_loose Atom b w k h = absurd k

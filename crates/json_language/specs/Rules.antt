@@ -17,7 +17,7 @@ use Rattle.rules.specs.declared.place.Expects.{Expects}
 use Rattle.rules.specs.declared.place.Expects.TheVariants.{First, Next, Colon, Value, After}
 use Rattle.rules.specs.declared.place.Move.{Move}
 use Rattle.rules.specs.declared.place.Move.TheVariants.{Within, Opens, Closes}
-use Rattle.layout.specs.declared.token.Break.{Break as Lead}
+use Rattle.layout.specs.declared.token.Break.{Break}
 use Rattle.rules.specs.Rules.{Rules}
 use Rattle.rules.specs.Escapes.{escape_of}
 use Rattle.json_language.specs.declared.class.Class.{Class}
@@ -245,7 +245,7 @@ closing no_word = false
 
 -- The Break before a word: each first item or name has one without a blank, each later one has one with a blank, and
 -- a closing bracket behind a value has one whose offset takes its block's back.
-abbrev pub sort_lead : Expects → Sort → Option Lead
+abbrev pub sort_lead : Expects → Sort → Option Break
 sort_lead First s = cond (closing s) None (Some (record { blanks = 0; offset = pos 0 }))
 sort_lead Next s = Some (record { blanks = 1; offset = pos 0 })
 sort_lead Colon s = None

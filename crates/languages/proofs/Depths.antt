@@ -1,25 +1,25 @@
 -- The brackets of the rules' place are as many as the kinds of the words say.
 use Rattle.std.proofs.Common.{◌≡◌, ℕ, suc, pred, ◌<◌, Bool, true, false, cond, ◌&&◌, ◌||◌, leb, List, [], ◌∷◌, length, Some, None, Option, sym, refl, ap, ◌∙◌, subst, inl, inr}
-use Rattle.std.proofs.lemmas.Bool.{both_ways, and_parts, or_parts, not-true, cond-true, cond-false, leb-false, lt-leb}
+use Rattle.std.proofs.lemmas.Bool.{false≢true, and_parts, or_parts, not-true, cond-true, cond-false, leb-false, lt-leb}
 use Rattle.grammar.specs.Meaning.{Word}
 use Rattle.grammar.specs.Laws.{most_open}
 use Rattle.rules.specs.declared.word.Kind.{Kind}
 use Rattle.rules.specs.declared.word.Kind.TheVariants.{Opening, Closing, Comma, Colon, Text, Number, Literal, Atom}
-use Rattle.rules.specs.declared.place.Bracket.{Bracket}
 use Rattle.rules.specs.declared.place.Move.{Move}
 use Rattle.rules.specs.declared.place.Move.TheVariants.{Within, Opens, Closes}
-use Rattle.rules.specs.Rules.{Rules, Place, innermost, without_innermost, moves_at, is_some, admits, placed, behind}
+use Rattle.rules.specs.Rules.{Rules, Place, innermost, moves_at, is_some, admits, placed, behind}
 use Rattle.rules.specs.Machine.{all_short, low, all_low, first_place}
 use Rattle.rules.specs.Language.{is_opening, is_closing, open_behind, open_after, all_shallow, keeps_limits, within_limits, parses, SentenceBy}
 use Rattle.rules.specs.Lawful.{Lawful, fits_kind}
 use Rattle.reading.specs.Places.{Placed}
 use Rattle.reading.specs.Judging.{OpensTooMany}
 use Rattle.reading.proofs.Complete.{words_in}
+use Rattle.reading.proofs.Tokens.{fewer}
 use Rattle.languages.specs.Limits.{TooDeep}
 
 -- a closing is no opening
 closing_not_opening : (k : Kind) → is_closing k ≡ true → is_opening k ≡ false
-closing_not_opening Opening h = absurd (both_ways false refl h)
+closing_not_opening Opening h = absurd (false≢true h)
 closing_not_opening Closing h = refl
 closing_not_opening Comma h = refl
 closing_not_opening Colon h = refl
@@ -28,12 +28,8 @@ closing_not_opening Number h = refl
 closing_not_opening Literal h = refl
 closing_not_opening Atom h = refl
 
-fewer : (ks : List Bracket) → pred (length ks) ≡ length (without_innermost ks)
-fewer [] = refl
-fewer (k ∷ ks) = refl
-
 count_placed : (p : Place) (k : Kind) (o : Option Move) → is_some o ≡ true → fits_kind k o ≡ true → length (placed o p).brackets ≡ open_behind k (length p.brackets)
-count_placed p k None h f = absurd (both_ways false refl h)
+count_placed p k None h f = absurd (false≢true h)
 count_placed p k (Some (Within e)) h f =
     let n : ℕ = length p.brackets in
     let q = or_parts (is_opening k) (is_closing k) (not-true (is_opening k || is_closing k) f) in
@@ -48,7 +44,7 @@ count_behind r l p b w a = count_placed p (r.kind b) (moves_at r p b) a (l.kind_
 
 low_shallow : (r : Rules) → Lawful r → (p : Place) (ws : List Word) → parses r p ws ≡ true → all_low r p ws ≡ all_shallow r.kind (length p.brackets) ws
 low_shallow r l p [] h = refl
-low_shallow r l p ([] ∷ ws) h = absurd (both_ways false refl h)
+low_shallow r l p ([] ∷ ws) h = absurd (false≢true h)
 low_shallow r l p ((b ∷ w) ∷ ws) h =
     let q = and_parts (admits r p b) (parses r (behind r p (b ∷ w)) ws) h in
     let e = count_behind r l p b w q.0 in
@@ -71,7 +67,7 @@ same_limits r l kind same ws h =
 -- behind a word that may stand at its place
 count_word : (r : Rules) → Lawful r → (kind : ℕ → Kind) → ((b : ℕ) → kind b ≡ r.kind b) → (p : Place) (d : ℕ) (w : Word) (ws : List Word) → length p.brackets ≡ d → parses r p (w ∷ ws) ≡ true
     → (length (behind r p w).brackets ≡ open_after kind w d) × (parses r (behind r p w) ws ≡ true)
-count_word r l kind same p d [] ws e h = absurd (both_ways false refl h)
+count_word r l kind same p d [] ws e h = absurd (false≢true h)
 count_word r l kind same p d (b ∷ w) ws e h =
     let q = and_parts (admits r p b) (parses r (behind r p (b ∷ w)) ws) h in
     (count_behind r l p b w q.0 ∙ (sym (after_alike kind r.kind same (b ∷ w) (length p.brackets)) ∙ ap (open_after kind (b ∷ w)) e), q.1)

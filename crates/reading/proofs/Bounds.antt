@@ -1,7 +1,7 @@
 -- Where words stand: those that bytes have ended lie before the next byte, and those to come do not begin before it.
 use Rattle.std.proofs.Common.{◌≡◌, ℕ, suc, ◌+◌, ◌-◌, ◌≤◌, Bool, true, false, cond, ◌&&◌, List, [], ◌∷◌, ◌++◌, length, Some, None, Option, sym, refl, ap, ◌∙◌, subst, ⊎_elim, append_assoc, arith}
 use Rattle.std.proofs.lemmas.List.{length-append}
-use Rattle.std.proofs.lemmas.Bool.{both_ways, and_parts, and_from, cases_Bool, cond-true, cond-false}
+use Rattle.std.proofs.lemmas.Bool.{false≢true, and_parts, and_from, cases_Bool, cond-true, cond-false}
 use Rattle.layout.specs.Tokens.{Token}
 use Rattle.grammar.specs.Meaning.{Word, end, Answer, refused, gives, granted, words_of, taken, accepted}
 use Rattle.rules.specs.declared.word.Kind.{Kind}
@@ -132,7 +132,7 @@ behind_bytes r l s k (b ∷ bs) f h =
 -- the words that the machine ends, in their places, are those of its meaning
 granted_words : (x : Bool) (kind : ℕ → Kind) (n m : ℕ) (ws : List Word) (ts : List Token) → n ≡ m → granted (cond x (gives ws ts) (refused 6)) ≡ true → placed_at kind n (words_of (cond x (gives ws ts) (refused 6))) ≡ placed_at kind m ws
 granted_words true kind n m ws ts e h = ap (λ (k : ℕ). placed_at kind k ws) e
-granted_words false kind n m ws ts e h = absurd (both_ways false refl h)
+granted_words false kind n m ws ts e h = absurd (false≢true h)
 
 meant_places : (r : Rules) (s : State) (k : ℕ) (bs : List ℕ) → accepted (means r s) bs ≡ true → words_at r.kind (means r s) k bs ≡ placed_from r s k bs
 meant_places r s k [] h =

@@ -1,7 +1,7 @@
 -- Every document of the language is accepted, and its words, in their places, are those that the machine ends.
 use Rattle.std.proofs.Common.{◌≡◌, ℕ, suc, ◌+◌, ◌-◌, Bool, true, false, ◌&&◌, List, [], ◌∷◌, ◌++◌, length, Some, None, Option, sym, refl, ap, ◌∙◌, subst, append_assoc, arith}
 use Rattle.std.proofs.lemmas.List.{append-nil, length-append}
-use Rattle.std.proofs.lemmas.Bool.{both_ways, and_parts, and_from, cond-true, cond-false}
+use Rattle.std.proofs.lemmas.Bool.{false≢true, and_parts, and_from, cond-true, cond-false}
 use Rattle.grammar.specs.Meaning.{Word}
 use Rattle.rules.specs.declared.word.Inside.{Inside}
 use Rattle.rules.specs.declared.word.Begin.{Begin}
@@ -52,7 +52,7 @@ strict_place r k b w h = cond-false (loose (r.kind b)) (k - length (b ∷ w)) (s
 
 -- a spelled word has bytes
 spelled_first : (r : Rules) (w : Word) (rest : List ℕ) → spelled r w ≡ true → [] ≡ w ++ rest → ⊥
-spelled_first r [] rest sp e = both_ways false refl sp
+spelled_first r [] rest sp e = false≢true sp
 spelled_first r (b ∷ w) rest sp e = not_empty b (w ++ rest) e
 
 -- no bytes write no words
@@ -63,15 +63,15 @@ empty_places r (v ∷ ws) bs e (word_then w rest sp same follows more) = absurd 
 
 complete_blank : (r : Rules) (bs : List ℕ) → Complete r bs → (b : ℕ) (p : Place) (ws : List Word) (k : Begin) → is_blank k ≡ true → (wr : WrittenBy r ws bs) → parses r p ws ≡ true → TakenOn r p None [] (begun (admits r p b) k b) (λ n. places (suc n) wr) bs
 complete_blank r bs ih b p ws Blank h wr f = let q = ih p None [] ws tt (wr, f) in (q.0, λ n. q.1 (suc n))
-complete_blank r bs ih b p ws Sole h wr f = absurd (both_ways false refl h)
-complete_blank r bs ih b p ws (Starts i) h wr f = absurd (both_ways false refl h)
-complete_blank r bs ih b p ws NeverBegins h wr f = absurd (both_ways false refl h)
+complete_blank r bs ih b p ws Sole h wr f = absurd (false≢true h)
+complete_blank r bs ih b p ws (Starts i) h wr f = absurd (false≢true h)
+complete_blank r bs ih b p ws NeverBegins h wr f = absurd (false≢true h)
 
 complete_word : (r : Rules) → Lawful r → (bs : List ℕ) → Complete r bs → (b : ℕ) (v : Word) (rest : List ℕ) (p : Place) (ws : List Word) (k : Begin) (a : Bool) → r.begins b ≡ k → admits r p b ≡ a → a ≡ true
     → spelled_begin r b v k ≡ true → bs ≡ v ++ rest → Follows r.kind r.delimits (b ∷ v) rest → (wr : WrittenBy r ws rest) → parses r (behind r p (b ∷ v)) ws ≡ true
     → TakenOn r p None [] (begun a k b) (then_more (b ∷ v) (λ n. places n wr)) bs
-complete_word r l bs ih b v rest p ws k false ek ea adm sp e fo wr f = absurd (both_ways false refl adm)
-complete_word r l bs ih b v rest p ws Blank true ek ea adm sp e fo wr f = absurd (both_ways false refl sp)
+complete_word r l bs ih b v rest p ws k false ek ea adm sp e fo wr f = absurd (false≢true adm)
+complete_word r l bs ih b v rest p ws Blank true ek ea adm sp e fo wr f = absurd (false≢true sp)
 complete_word r l bs ih b [] rest p ws Sole true ek ea adm sp e fo wr f =
     subst (λ (xs : List ℕ). TakenOn r p None [] (begun true Sole b) (then_more (b ∷ []) (λ n. places n wr)) xs) (sym e)
     (let q = subst (Complete r) e ih (behind r p (b ∷ [])) None [] ws tt (wr, f) in (
@@ -79,7 +79,7 @@ complete_word r l bs ih b [] rest p ws Sole true ek ea adm sp e fo wr f =
       λ n. same_placed (place_of r.kind n (b ∷ [])) n (b ∷ []) (b ∷ []) _ (places (n + 1) wr)
           (strict_place r n b [] (l.sole_not_loose b ek) ∙ omega arith) refl (q.1 (suc n) ∙ ap (λ (m : ℕ). places m wr) (omega arith)),
     ))
-complete_word r l bs ih b (c ∷ v) rest p ws Sole true ek ea adm sp e fo wr f = absurd (both_ways false refl sp)
+complete_word r l bs ih b (c ∷ v) rest p ws Sole true ek ea adm sp e fo wr f = absurd (false≢true sp)
 complete_word r l bs ih b v rest p ws (Starts i) true ek ea adm sp e fo wr f =
     let q = ih p (Some i) (b ∷ []) ((b ∷ v) ∷ ws) (first_byte i b ek, ea) (record {
       tail = v;
@@ -93,12 +93,12 @@ complete_word r l bs ih b v rest p ws (Starts i) true ek ea adm sp e fo wr f =
       parse = f;
     }) in
     (q.0, λ n. q.1 (suc n) ∙ same_placed (suc n - 1) n (b ∷ v) (b ∷ v) (places (suc n + length v) wr) (places (n + length (b ∷ v)) wr) (omega arith) refl (ap (λ (m : ℕ). places m wr) (omega arith)))
-complete_word r l bs ih b v rest p ws NeverBegins true ek ea adm sp e fo wr f = absurd (both_ways false refl sp)
+complete_word r l bs ih b v rest p ws NeverBegins true ek ea adm sp e fo wr f = absurd (false≢true sp)
 
 -- between words
 complete_between : (r : Rules) → Lawful r → (bs : List ℕ) → Complete r bs → (b : ℕ) (p : Place) (ws : List Word) (wr : WrittenBy r ws (b ∷ bs)) → parses r p ws ≡ true → TakenOn r p None [] (between r p b) (λ n. places n wr) bs
 complete_between r l bs ih b p ws (blank_byte c h wr) f = complete_blank r bs ih b p ws (r.begins b) h wr f
-complete_between r l bs ih b p (u ∷ ws) (word_then [] rest sp e fo wr) f = absurd (both_ways false refl sp)
+complete_between r l bs ih b p (u ∷ ws) (word_then [] rest sp e fo wr) f = absurd (false≢true sp)
 complete_between r l bs ih b p (u ∷ ws) (word_then (c ∷ v) rest sp e fo wr) f =
     let g = and_parts (admits r p c) (parses r (behind r p (c ∷ v)) ws) f in
     subst (λ (x : ℕ). TakenOn r p None [] (between r p x) (then_more (c ∷ v) (λ n. places n wr)) bs) (sym (same_head b c bs (v ++ rest) e))
@@ -153,8 +153,8 @@ complete_more r l bs ih c p i b v [] rest ws live Closes ek sp e fo wr f =
       λ n. same_placed (place_of r.kind n (w ++ c ∷ [])) (n - length w) (w ++ c ∷ []) (w ++ c ∷ []) _ (places (n + 1) wr)
           (strict_place r n b (v ++ c ∷ []) (l.closed_not_loose i b c v live.0 ek) ∙ omega arith) refl (q.1 (suc n) ∙ ap (λ (m : ℕ). places m wr) (omega arith)),
     ))
-complete_more r l bs ih c p i b v (d ∷ tail) rest ws live Closes ek sp e fo wr f = absurd (both_ways false refl sp)
-complete_more r l bs ih c p i b v tail rest ws live NeverTurns ek sp e fo wr f = absurd (both_ways false refl sp)
+complete_more r l bs ih c p i b v (d ∷ tail) rest ws live Closes ek sp e fo wr f = absurd (false≢true sp)
+complete_more r l bs ih c p i b v tail rest ws live NeverTurns ek sp e fo wr f = absurd (false≢true sp)
 
 -- a loose word ends here
 pub loose_follows : (r : Rules) → Lawful r → (i : Inside) (b : ℕ) (v : Word) (rest : List ℕ) → Begun r i (b ∷ v) → r.whole i (b ∷ v) ≡ true → Follows r.kind r.delimits ((b ∷ v) ++ []) rest → Delimited r.delimits rest

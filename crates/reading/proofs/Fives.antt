@@ -1,7 +1,7 @@
 -- Refusal 5 comes exactly at a 65th open bracket.
 use Rattle.std.proofs.Common.{◌≡◌, ℕ, suc, ◌+◌, ◌<◌, ◌≤◌, Bool, true, false, cond, ◌&&◌, eqb, leb, ◌⊎◌, List, [], ◌∷◌, ◌++◌, length, Some, None, Option, sym, refl, ap, ◌∙◌, subst, inl, inr, ⊎_elim, arith}
 use Rattle.std.proofs.lemmas.List.{append-nil}
-use Rattle.std.proofs.lemmas.Bool.{both_ways, and_parts, and_from, and_left, and_right, and_cases, cond-true, cond-false}
+use Rattle.std.proofs.lemmas.Bool.{both_ways, false≢true, true≢false, and_parts, and_from, and_left, and_right, and_cases, cond-true, cond-false}
 use Rattle.layout.specs.Tokens.{Token}
 use Rattle.grammar.specs.Meaning.{Word, Answer, refused, gives, granted, taken, ended}
 use Rattle.grammar.specs.Laws.{most_open}
@@ -60,12 +60,12 @@ is_five (refused n) = eqb n 5
 is_five (gives ws ts) = false
 
 five_cond : (x y : Bool) (ws : List Word) (ts : List Token) → cond x (cond y (gives ws ts) (refused 5)) (refused 4) ≡ refused 5 → y ≡ false
-five_cond true true ws ts e = absurd (both_ways false refl (ap is_five e))
+five_cond true true ws ts e = absurd (false≢true (ap is_five e))
 five_cond true false ws ts e = refl
-five_cond false y ws ts e = absurd (both_ways false refl (ap is_five e))
+five_cond false y ws ts e = absurd (false≢true (ap is_five e))
 
 five_low : (r : Rules) (s : State) (st : Step) → judged r s st ≡ refused 5 → all_low r s.place (step_words st) ≡ false
-five_low r s dead e = absurd (both_ways false refl (ap is_five e))
+five_low r s dead e = absurd (false≢true (ap is_five e))
 five_low r s (on io w ws) e = five_cond (all_short (w ∷ ws)) (all_low r s.place ws) ws (stand_for r s.place ws) e
 
 low_five : (r : Rules) (s : State) (io : Option Inside) (w : Word) (ws : List Word) → all_short (w ∷ ws) ≡ true → all_low r s.place ws ≡ false → judged r s (on io w ws) ≡ refused 5
@@ -83,25 +83,25 @@ first_false false e = refl
 
 -- a step behind which too many brackets are open: the byte is a word of its own
 five_begun : (r : Rules) → Lawful r → (p : Place) (k b : ℕ) (ps : List Placed) (x : Begin) (a : Bool) → r.begins b ≡ x → all_low r p (step_words (begun a x b)) ≡ false → OpensTooMany r p k b (placed_at r.kind k (step_words (begun a x b)) ++ ps)
-five_begun r l p k b ps Blank a e h = absurd (both_ways true h refl)
+five_begun r l p k b ps Blank a e h = absurd (true≢false h)
 five_begun r l p k b ps Sole true e h = inl (strict_place r k b [] (l.sole_not_loose b e) ∙ omega arith, refl, first_false (low (behind r p (b ∷ []))) h)
-five_begun r l p k b ps Sole false e h = absurd (both_ways true h refl)
-five_begun r l p k b ps (Starts i) true e h = absurd (both_ways true h refl)
-five_begun r l p k b ps (Starts i) false e h = absurd (both_ways true h refl)
-five_begun r l p k b ps NeverBegins a e h = absurd (both_ways true h refl)
+five_begun r l p k b ps Sole false e h = absurd (true≢false h)
+five_begun r l p k b ps (Starts i) true e h = absurd (true≢false h)
+five_begun r l p k b ps (Starts i) false e h = absurd (true≢false h)
+five_begun r l p k b ps NeverBegins a e h = absurd (true≢false h)
 
 five_ending : (r : Rules) (p : Place) (k b : ℕ) (ps : List Placed) (w : Word) (st : Step) → low (behind r p w) ≡ true → (all_low r (behind r p w) (step_words st) ≡ false → OpensTooMany r (behind r p w) k b (placed_at r.kind k (step_words st) ++ ps))
     → all_low r p (step_words (ending w st)) ≡ false → OpensTooMany r p k b (placed_at r.kind k (step_words (ending w st)) ++ ps)
-five_ending r p k b ps w dead h f e = absurd (both_ways true e refl)
+five_ending r p k b ps w dead h f e = absurd (true≢false e)
 five_ending r p k b ps w (on io v ws) h f e = inr (f (second_false (low (behind r p w)) (all_low r (behind r p w) ws) h e))
 
 five_when : (r : Rules) (p : Place) (k b : ℕ) (ps : List Placed) (t : Bool) (st : Step) → (all_low r p (step_words st) ≡ false → OpensTooMany r p k b (placed_at r.kind k (step_words st) ++ ps))
     → all_low r p (step_words (cond t st dead)) ≡ false → OpensTooMany r p k b (placed_at r.kind k (step_words (cond t st dead)) ++ ps)
 five_when r p k b ps true st f e = f e
-five_when r p k b ps false st f e = absurd (both_ways true e refl)
+five_when r p k b ps false st f e = absurd (true≢false e)
 
 five_turned : (r : Rules) → Lawful r → (p : Place) (i : Inside) (w : Word) (k b : ℕ) (ps : List Placed) → Live r p i w → low p ≡ true → (t : Turn) → all_low r p (step_words (turned r p i w b t)) ≡ false → OpensTooMany r p k b (placed_at r.kind k (step_words (turned r p i w b t)) ++ ps)
-five_turned r l p i w k b ps live h (Stays j) e = absurd (both_ways true e refl)
+five_turned r l p i w k b ps live h (Stays j) e = absurd (true≢false e)
 five_turned r l p i w k b ps live h Closes e = absurd (both_ways (low (behind r p (w ++ b ∷ []))) (first_false (low (behind r p (w ++ b ∷ []))) e) (low_live r l p i w (b ∷ []) live h))
 five_turned r l p i w k b ps live h NeverTurns e =
     let q : Place = behind r p w in
@@ -139,17 +139,17 @@ abbrev OpensHere : Rules → Place → ℕ → Type 0
 OpensHere r q b = (r.begins b ≡ Sole) × (admits r q b ≡ true) × (low (behind r q (b ∷ [])) ≡ false)
 
 here_begins : (r : Rules) → Lawful r → (q : Place) (b : ℕ) (x : Begin) → r.begins b ≡ x → spelled_begin r b [] x ≡ true → admits r q b ≡ true → low q ≡ true → low (behind r q (b ∷ [])) ≡ false → OpensHere r q b
-here_begins r l q b Blank e sp a h f = absurd (both_ways false refl sp)
+here_begins r l q b Blank e sp a h f = absurd (false≢true sp)
 here_begins r l q b Sole e sp a h f = (e, a, f)
 here_begins r l q b (Starts i) e sp a h f = absurd (both_ways (low (behind r q (b ∷ []))) f (low_behind r l q b [] i e ∙ h))
-here_begins r l q b NeverBegins e sp a h f = absurd (both_ways false refl sp)
+here_begins r l q b NeverBegins e sp a h f = absurd (false≢true sp)
 
 opens_here : (r : Rules) → Lawful r → (q : Place) (k b : ℕ) (bs : List ℕ) (ws : List Word) (wr : WrittenBy r ws (b ∷ bs)) → parses r q ws ≡ true → low q ≡ true → OpensTooMany r q k b (places k wr) → OpensHere r q b
 opens_here r l q k b bs ws (blank_byte c e wr) f h x = absurd (opens_not_later r q k (suc k) b (places (suc k) wr) (omega arith) (places_begin r ws bs (suc k) wr) x)
 opens_here r l q k b bs (w ∷ ws) (word_then v rest sp e fo wr) f h (inl x) =
     let g : parses r q ((b ∷ []) ∷ ws) ≡ true = ap (λ (u : Word). parses r q (u ∷ ws)) (sym x.1) ∙ f in
     here_begins r l q b (r.begins b) refl (ap (spelled r) (sym x.1) ∙ sp) (and_parts (admits r q b) _ g).0 h (ap (λ (u : Word). low (behind r q u)) (sym x.1) ∙ x.2)
-opens_here r l q k b bs ([] ∷ ws) (word_then v rest sp e fo wr) f h (inr x) = absurd (both_ways false refl sp)
+opens_here r l q k b bs ([] ∷ ws) (word_then v rest sp e fo wr) f h (inr x) = absurd (false≢true sp)
 opens_here r l q k b bs ((c ∷ w) ∷ ws) (word_then v rest sp e fo wr) f h (inr x) =
     let n : ℕ = k + length (c ∷ w) in
     absurd (opens_not_later r (behind r q (c ∷ w)) k n b (places n wr) (omega arith) (places_begin r ws rest n wr) x)
@@ -201,7 +201,7 @@ low_words r p [] h e = h
 low_words r p (w ∷ ws) h e = let q = and_parts (low (behind r p w)) (all_low r (behind r p w) ws) e in low_words r (behind r p w) ws q.0 q.1
 
 next_so_far : (r : Rules) (s : State) (st : Step) → Went r s st → (next r s st).place ≡ behind_all r s.place (step_words st)
-next_so_far r s dead w = absurd (both_ways false refl w.lives)
+next_so_far r s dead w = absurd (false≢true w.lives)
 next_so_far r s (on io v ws) w = refl
 
 place_so_far : (r : Rules) (s : State) (k : ℕ) (bs : List ℕ) → taken (means r s) bs ≡ true → (run r s bs).place ≡ behind_all r s.place (words_in (so_far r s k bs))

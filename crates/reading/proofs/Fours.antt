@@ -1,7 +1,7 @@
 -- Refusal 4 comes exactly at a word's 256th byte.
 use Rattle.std.proofs.Common.{◌≡◌, ℕ, suc, ◌+◌, ◌-◌, ◌<◌, ◌≤◌, Bool, true, false, cond, ◌&&◌, eqb, ◌⊎◌, List, [], ◌∷◌, ◌++◌, length, Some, None, Option, sym, refl, ap, ◌∙◌, subst, inl, inr, ⊎_elim, arith}
 use Rattle.std.proofs.lemmas.List.{append-nil, length-append}
-use Rattle.std.proofs.lemmas.Bool.{both_ways, and_parts, and_from, and_left, cases_Bool, cond-true, cond-false, leb-true, leb-false, lt-leb}
+use Rattle.std.proofs.lemmas.Bool.{both_ways, false≢true, true≢false, and_parts, and_from, and_left, cases_Bool, cond-true, cond-false, leb-true, leb-false, lt-leb}
 use Rattle.layout.specs.Tokens.{Token}
 use Rattle.grammar.specs.Meaning.{Word, Answer, refused, gives, taken}
 use Rattle.grammar.specs.Laws.{most_bytes}
@@ -127,7 +127,7 @@ too_long w c e = let n = length-append w (c ∷ []) in lt-leb (length (w ++ c �
 four_turned : (r : Rules) (s : State) (p : Place) (i : Inside) (w : Word) (b : ℕ) (tail : List ℕ) (t : Turn) → length w ≡ most_bytes → spelled_turn (λ j. spelled_on r j (w ++ b ∷ []) tail) (none_left tail) t ≡ true → judged r s (turned r p i w b t) ≡ refused 4
 four_turned r s p i w b tail (Stays j) e sp = long_four r s (Some j) (w ++ b ∷ []) [] (and_left (short (w ++ b ∷ [])) true (too_long w b e))
 four_turned r s p i w b tail Closes e sp = long_four r s None [] ((w ++ b ∷ []) ∷ []) (and_left (short (w ++ b ∷ [])) true (too_long w b e))
-four_turned r s p i w b tail NeverTurns e sp = absurd (both_ways false refl sp)
+four_turned r s p i w b tail NeverTurns e sp = absurd (false≢true sp)
 
 -- the first word to come, finished by tail
 four_first : (r : Rules) (s : State) (p : Place) (i : Inside) (w : Word) (k b : ℕ) (bs tail rest : List ℕ) → length w ≤ k → (k - length w) + suc most_bytes ≡ suc k → suc most_bytes ≤ length (w ++ tail) → b ∷ bs ≡ tail ++ rest
@@ -149,7 +149,7 @@ four_back r s p (Some i) w ws k b bs h g (inr x) =
 tail_goes_on : (r : Rules) → Lawful r → (p : Place) (i : Inside) (w : Word) (b : ℕ) (bs tail rest : List ℕ) → Live r p i w → b ∷ bs ≡ tail ++ rest → spelled_on r i w tail ≡ true → Follows r.kind r.delimits (w ++ tail) rest → is_never (r.turns i w b) ≡ false → 0 < length tail
 tail_goes_on r l p i [] b bs tail rest live e sp fo h = absurd live
 tail_goes_on r l p i (c ∷ v) b bs (d ∷ tail) rest live e sp fo h = omega arith
-tail_goes_on r l p i (c ∷ v) b bs [] [] live e sp fo h = absurd (both_ways true (ap none_left (sym e)) refl)
+tail_goes_on r l p i (c ∷ v) b bs [] [] live e sp fo h = absurd (true≢false (ap none_left (sym e)))
 tail_goes_on r l p i (c ∷ v) b bs [] (d ∷ rest) live e sp fo h =
     let del : r.delimits b ≡ true = ap r.delimits (same_head b d bs rest e) ∙ loose_follows r l i c v (d ∷ rest) live.0 sp fo in
     absurd (both_ways (is_never (r.turns i (c ∷ v) b)) h (ap is_never (l.delimiter_ends i (c ∷ v) b sp del)))

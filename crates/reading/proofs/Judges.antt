@@ -1,6 +1,6 @@
 -- Refusal 3 comes exactly where no document of the language goes on.
 use Rattle.std.proofs.Common.{◌≡◌, ℕ, Bool, true, false, cond, eqb, List, [], ◌∷◌, ◌++◌, None, sym, refl, ap, ◌∙◌, subst, ⊎_elim, append_assoc}
-use Rattle.std.proofs.lemmas.Bool.{both_ways, and_parts, and_from, cases_Bool}
+use Rattle.std.proofs.lemmas.Bool.{both_ways, true≢false, and_parts, and_from, cases_Bool}
 use Rattle.layout.specs.Tokens.{Token}
 use Rattle.grammar.specs.Meaning.{Word, Answer, refused, gives, taken}
 use Rattle.rules.specs.Rules.{Rules, stand_for}
@@ -45,7 +45,7 @@ three_dead r s (on io w ws) e =
 
 dead_three : (r : Rules) (s : State) (st : Step) → alive st ≡ false → judged r s st ≡ refused 3
 dead_three r s dead h = refl
-dead_three r s (on io w ws) h = absurd (both_ways true h refl)
+dead_three r s (on io w ws) h = absurd (true≢false h)
 
 next_byte : (bs more : List ℕ) (b : ℕ) → (bs ++ b ∷ []) ++ more ≡ bs ++ b ∷ more
 next_byte bs more b = append_assoc bs (b ∷ []) more

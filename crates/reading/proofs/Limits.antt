@@ -1,7 +1,7 @@
 -- With the limits: the machine accepts exactly the documents whose words keep them.
 use Rattle.std.proofs.Common.{◌≡◌, ℕ, Bool, true, false, cond, ◌&&◌, List, [], ◌∷◌, ◌++◌, length, Some, None, Option, sym, refl, ap, ◌∙◌, subst, append_assoc, arith}
 use Rattle.std.proofs.lemmas.List.{length-append}
-use Rattle.std.proofs.lemmas.Bool.{both_ways, and_parts, and_from, cond-true, leb-true, le-leb}
+use Rattle.std.proofs.lemmas.Bool.{false≢true, true≢false, and_parts, and_from, cond-true, leb-true, le-leb}
 use Rattle.layout.specs.Tokens.{Token}
 use Rattle.grammar.specs.Meaning.{Word, end, Answer, refused, gives, granted, words_of, taken, accepted, ended, words}
 use Rattle.grammar.specs.Laws.{most_bytes}
@@ -40,11 +40,11 @@ pending_low r p (Some i) w h = and_from (low (behind r p w)) true (low_none r (b
 
 pub granted_end : (x : Bool) (ws : List Word) (ts : List Token) → granted (cond x (gives ws ts) (refused 6)) ≡ true → x ≡ true
 granted_end true ws ts h = refl
-granted_end false ws ts h = absurd (both_ways false refl h)
+granted_end false ws ts h = absurd (false≢true h)
 
 -- a step that is not refused leaves a short word under way, and puts its words before those to come
 pub next_short : (r : Rules) (s : State) (st : Step) → Went r s st → short (next r s st).word ≡ true
-next_short r s dead w = absurd (both_ways false refl w.lives)
+next_short r s dead w = absurd (false≢true w.lives)
 next_short r s (on io v ws) w = (and_parts (short v) (all_short ws) w.shorts).0
 
 step_short : (r : Rules) (s : State) (st : Step) (vs : List Word) → Went r s st → all_short vs ≡ true → all_short (step_words st ++ vs) ≡ true
@@ -53,7 +53,7 @@ step_short r s st vs w h =
     all_short_append (step_words st) vs ∙ and_from (all_short (step_words st)) (all_short vs) q.1 h
 
 step_low : (r : Rules) (s : State) (st : Step) (vs : List Word) → Went r s st → all_low r (next r s st).place vs ≡ true → all_low r s.place (step_words st ++ vs) ≡ true
-step_low r s dead vs w h = absurd (both_ways false refl w.lives)
+step_low r s dead vs w h = absurd (false≢true w.lives)
 step_low r s (on io v ws) vs w h = all_low_append r s.place ws vs ∙ and_from (all_low r s.place ws) (all_low r (behind_all r s.place ws) vs) w.lows h
 
 pub kept : (r : Rules) (s : State) (bs : List ℕ) → short s.word ≡ true → accepted (means r s) bs ≡ true → Kept r s bs
@@ -100,7 +100,7 @@ under_way_short r l p (Some i) w bs sane a h =
 granted_step : (r : Rules) → Lawful r → (s : State) (st : Step) (bs : List ℕ) → Fit r (next r s st) → alive st ≡ true → accepts r (next r s st) bs ≡ true
     → all_short (step_words st ++ words_from r (next r s st) bs) ≡ true → all_low r s.place (step_words st ++ words_from r (next r s st) bs) ≡ true
     → (granted (judged r s st) ≡ true) × (all_short (words_from r (next r s st) bs) ≡ true) × (all_low r (next r s st).place (words_from r (next r s st) bs) ≡ true)
-granted_step r l s dead bs f a acc x y = absurd (both_ways false refl a)
+granted_step r l s dead bs f a acc x y = absurd (false≢true a)
 granted_step r l s (on io w ws) bs f a acc x y =
     let p : Place = behind_all r s.place ws in
     let vs : List Word = words_from r (at p io w) bs in
@@ -144,7 +144,7 @@ accepts_documents r l bs ws =
 
 -- the end
 ends_six : (x : Bool) (ws : List Word) (ts : List Token) → granted (cond x (gives ws ts) (refused 6)) ≡ false → cond x (gives ws ts) (refused 6) ≡ refused 6
-ends_six true ws ts h = absurd (both_ways true h refl)
+ends_six true ws ts h = absurd (true≢false h)
 ends_six false ws ts h = refl
 
 pub six_if_unfinished : (r : Rules) → SixIfUnfinished r

@@ -1,7 +1,7 @@
 -- Every free writing of the tokens that stand for words writes these words again.
 use Rattle.std.proofs.Common.{◌≡◌, ℕ, zero, suc, ◌<◌, Bool, true, false, ◌⊎◌, List, [], ◌∷◌, ◌++◌, Some, None, Option, sym, refl, ap, ◌∙◌, subst, inl, inr, ⊎_elim, append_assoc, arith}
 use Rattle.std.proofs.lemmas.List.{append-nil}
-use Rattle.std.proofs.lemmas.Bool.{both_ways, and_parts}
+use Rattle.std.proofs.lemmas.Bool.{false≢true, and_parts}
 use Rattle.layout.specs.Tokens.{Token, Text}
 use Rattle.layout.specs.Layout.{blanks, ended, joined}
 use Rattle.layout.specs.Writings.{Choice, as_blanks, as_line, chosen, shown, shown_all, free_writing}
@@ -109,7 +109,7 @@ apart_delimits r l (Some k) [] c x h o (inr d) = d
 
 -- what a place admits, it does something with
 admitted_move : (m : Option Move) → is_some m ≡ true → (n : Move) × (m ≡ Some n)
-admitted_move None h = absurd (both_ways false refl h)
+admitted_move None h = absurd (false≢true h)
 admitted_move (Some n) h = (n, refl)
 
 -- the words from here on, written by free choice
@@ -132,7 +132,7 @@ out_word r c p b v ws tail pad s e =
 delimited_out : (r : Rules) → Lawful r → (c : ℕ → Choice) (p : Place) (b : ℕ) (m : Move) (ws : List Word) (tail : List ℕ) → loose (r.kind b) ≡ true → moves_at r p b ≡ Some m → Delimited r.delimits tail
     → parses r (moved m p.brackets) ws ≡ true → Delimited r.delimits (out_of r c (moved m p.brackets) ws tail)
 delimited_out r l c p b m [] tail lo em d f = d
-delimited_out r l c p b m ([] ∷ ws) tail lo em d f = absurd (both_ways false refl f)
+delimited_out r l c p b m ([] ∷ ws) tail lo em d f = absurd (false≢true f)
 delimited_out r l c p b m ((x ∷ v) ∷ ws) tail lo em d f =
     let q : Place = moved m p.brackets in
     let s = shown_word c r q x v in
@@ -155,7 +155,7 @@ follows_out r l c p b v ws tail pad gp a d f true e =
 pub written_out : (r : Rules) → Lawful r → (c : ℕ → Choice) (p : Place) (ws : List Word) (tail : List ℕ) → AllSpelled r ws → parses r p ws ≡ true → Delimited r.delimits tail → WrittenBy r [] tail
     → WrittenBy r ws (out_of r c p ws tail)
 written_out r l c p [] tail good f d e = e
-written_out r l c p ([] ∷ ws) tail good f d e = absurd (both_ways false refl f)
+written_out r l c p ([] ∷ ws) tail good f d e = absurd (false≢true f)
 written_out r l c p ((b ∷ v) ∷ ws) tail good f d e =
     let s = shown_word c r p b v in
     let t = text_pad r l b v in

@@ -1,11 +1,11 @@
 -- What may come from a state on: the rest of the word under way, and then words that lead to the end of a document.
-use Rattle.std.proofs.Common.{◌≡◌, ℕ, suc, Bool, true, false, ◌&&◌, List, [], ◌∷◌, ◌++◌, Some, None, Option, refl, ap}
-use Rattle.std.proofs.lemmas.Bool.{both_ways}
+use Rattle.std.proofs.Common.{◌≡◌, ℕ, suc, Bool, true, false, ◌&&◌, List, [], ◌∷◌, ◌++◌, Some, None, Option, refl}
+use Rattle.std.proofs.lemmas.Bool.{false≢true, true≢false}
 use Rattle.grammar.specs.Meaning.{Word}
 use Rattle.rules.specs.declared.word.Inside.{Inside}
 use Rattle.rules.specs.Rules.{Rules, Place, behind}
 use Rattle.rules.specs.Machine.{State, Step, dead, on, next, ending}
-use Rattle.rules.specs.Language.{WrittenBy, Follows, FollowsKind, none_left, spelled_on, parses}
+use Rattle.rules.specs.Language.{WrittenBy, Follows, FollowsKind, spelled_on, parses}
 pub use Rattle.reading.specs.Fit.{Live, Sane}
 use Rattle.reading.specs.Places.{Placed, place_of, placed_at}
 use Rattle.reading.specs.Accepts.{at, alive, step_words, accepts, words_from, placed_from}
@@ -42,32 +42,24 @@ accepts_ending r p io w v dead bs = refl
 accepts_ending r p io w v (on j u ws) bs = refl
 
 pub words_ending : (r : Rules) (p : Place) (io : Option Inside) (w v : Word) (st : Step) (bs : List ℕ) → alive st ≡ true → words_on r (at p io v) (ending w st) bs ≡ w ∷ words_on r (at (behind r p w) None []) st bs
-words_ending r p io w v dead bs h = absurd (both_ways false refl h)
+words_ending r p io w v dead bs h = absurd (false≢true h)
 words_ending r p io w v (on j u ws) bs h = refl
 
 pub placed_ending : (r : Rules) (p : Place) (io : Option Inside) (w v : Word) (st : Step) (k : ℕ) (bs : List ℕ) → alive st ≡ true → placed_on r (at p io v) (ending w st) k bs ≡ record { place = place_of r.kind k w; word = w } ∷ placed_on r (at (behind r p w) None []) st k bs
-placed_ending r p io w v dead k bs h = absurd (both_ways false refl h)
+placed_ending r p io w v dead k bs h = absurd (false≢true h)
 placed_ending r p io w v (on j u ws) k bs h = refl
 
 -- a word that is not loose may be followed by anything
 pub follows_strict : (d : ℕ → Bool) (x : Bool) (bs : List ℕ) → x ≡ false → FollowsKind d x bs
-follows_strict d true bs h = absurd (both_ways true h refl)
+follows_strict d true bs h = absurd (true≢false h)
 follows_strict d false bs h = tt
 
 -- lists that are equal have equal parts
-abbrev head_or : ℕ → List ℕ → ℕ
-head_or d [] = d
-head_or d (b ∷ bs) = b
-
-abbrev tail_of : List ℕ → List ℕ
-tail_of [] = []
-tail_of (b ∷ bs) = bs
-
 pub same_head : (b c : ℕ) (bs cs : List ℕ) → b ∷ bs ≡ c ∷ cs → b ≡ c
-same_head b c bs cs e = ap (head_or b) e
+same_head b c bs cs e = cc
 
 pub same_tail : (b c : ℕ) (bs cs : List ℕ) → b ∷ bs ≡ c ∷ cs → bs ≡ cs
-same_tail b c bs cs e = ap tail_of e
+same_tail b c bs cs e = cc
 
 pub not_empty : (b : ℕ) (bs : List ℕ) → [] ≡ b ∷ bs → ⊥
-not_empty b bs e = both_ways true (ap none_left e) refl
+not_empty b bs e = cc

@@ -1,7 +1,7 @@
 -- The machine shows the laws of a grammar.
 use Rattle.std.proofs.Common.{◌≡◌, ℕ, ◌≤◌, Bool, true, false, cond, ◌&&◌, eqb, leb, List, [], ◌∷◌, ◌++◌, length, Some, None, Option, sym, refl, ap, ◌∙◌, subst, ⊎_elim, arith}
 use Rattle.std.proofs.lemmas.List.{length-append}
-use Rattle.std.proofs.lemmas.Bool.{both_ways, and_parts, and_from, cases_Bool, cond-false, eqb-true, leb-true}
+use Rattle.std.proofs.lemmas.Bool.{both_ways, false≢true, true≢false, and_parts, and_from, cases_Bool, cond-false, eqb-true, leb-true}
 use Rattle.lines.specs.Lines.{newlines}
 use Rattle.lines.proofs.Joins.{newlines_append}
 use Rattle.layout.specs.Tokens.{Token, nest}
@@ -142,7 +142,7 @@ record Replied (r : Rules) (p : Place) (a : Answer) : Type 0 where
 
 replied_refused : (r : Rules) (p : Place) (a : Answer) → granted a ≡ false → Replied r p a
 replied_refused r p (refused n) h = record { good = record { plain = tt; shorts = refl; lows = refl }; stands = refl; few = omega arith }
-replied_refused r p (gives ws ts) h = absurd (both_ways true h refl)
+replied_refused r p (gives ws ts) h = absurd (true≢false h)
 
 step_good : (r : Rules) → Lawful r → (s : State) (b : ℕ) → Fit r s → Went r s (step r s b) → GoodWords r s.place (step_words (step r s b))
 step_good r l s b f w = record {
@@ -178,7 +178,7 @@ pub record Gave (r : Rules) (s : State) (bs : List ℕ) : Type 0 where
   pub small : short (run r s bs).word ≡ true
 
 next_place : (r : Rules) (s : State) (st : Step) → Went r s st → (next r s st).place ≡ behind_all r s.place (words_of (judged r s st))
-next_place r s dead w = absurd (both_ways false refl w.lives)
+next_place r s dead w = absurd (false≢true w.lives)
 next_place r s (on io v ws) w = ap (λ (a : Answer). behind_all r s.place (words_of a)) (sym w.answered)
 
 gave_step : (r : Rules) (s : State) (b : ℕ) (bs : List ℕ) → Replied r s.place (judged r s (step r s b)) → (next r s (step r s b)).place ≡ behind_all r s.place (words_of (judged r s (step r s b))) → Gave r (next r s (step r s b)) bs → Gave r s (b ∷ bs)
@@ -238,7 +238,7 @@ tokens_stand r l bs h = (whole r l bs end (and_parts (taken (grammar_of r) bs) _
 
 parses_end : (r : Rules) (p : Place) (ws : List Word) → parses r p ws ≡ true → no_brackets r (behind_all r p ws) ≡ true
 parses_end r p [] h = h
-parses_end r p ([] ∷ ws) h = absurd (both_ways false refl h)
+parses_end r p ([] ∷ ws) h = absurd (false≢true h)
 parses_end r p ((b ∷ w) ∷ ws) h = parses_end r (behind r p (b ∷ w)) ws (and_parts (admits r p b) _ h).1
 
 balanced : (r : Rules) → Lawful r → (bs : List ℕ) → accepted (grammar_of r) bs ≡ true → nest 0 (tokens (grammar_of r) bs) ≡ 0

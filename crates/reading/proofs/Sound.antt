@@ -1,7 +1,7 @@
 -- What the machine accepts is a document of its language, with the words that it ended.
 use Rattle.std.proofs.Common.{◌≡◌, ℕ, Bool, true, false, cond, ◌&&◌, List, [], ◌∷◌, ◌++◌, Some, None, Option, sym, refl, ap, ◌∙◌, subst, append_assoc}
 use Rattle.std.proofs.lemmas.List.{append-nil}
-use Rattle.std.proofs.lemmas.Bool.{both_ways, and_parts, and_from}
+use Rattle.std.proofs.lemmas.Bool.{false≢true, and_parts, and_from}
 use Rattle.grammar.specs.Meaning.{Word}
 use Rattle.rules.specs.declared.word.Inside.{Inside}
 use Rattle.rules.specs.declared.word.Begin.{Begin}
@@ -37,11 +37,11 @@ sound_begun r l bs ih b p Sole true e ea h =
       word_then (b ∷ []) bs sp refl (follows_strict r.delimits (loose (r.kind b)) bs (l.sole_not_loose b e)) q.0,
       and_from (admits r p b) (parses r (behind r p (b ∷ [])) (words_from r (at (behind r p (b ∷ [])) None []) bs)) ea q.1,
     )
-sound_begun r l bs ih b p Sole false e ea h = absurd (both_ways false refl h)
+sound_begun r l bs ih b p Sole false e ea h = absurd (false≢true h)
 sound_begun r l bs ih b p (Starts i) true e ea h =
     written_going r p i b (words_from r (at p (Some i) (b ∷ [])) bs) bs e ea (ih p (Some i) (b ∷ []) (first_byte i b e, ea) h)
-sound_begun r l bs ih b p (Starts i) false e ea h = absurd (both_ways false refl h)
-sound_begun r l bs ih b p NeverBegins a e ea h = absurd (both_ways false refl h)
+sound_begun r l bs ih b p (Starts i) false e ea h = absurd (false≢true h)
+sound_begun r l bs ih b p NeverBegins a e ea h = absurd (false≢true h)
 
 sound_turned : (r : Rules) → Lawful r → (bs : List ℕ) → Sound r bs → (c : ℕ) (p : Place) (i : Inside) (b : ℕ) (v : Word) → Live r p i (b ∷ v) → (k : Turn) → r.turns i (b ∷ v) c ≡ k
     → accepts_on r (at p (Some i) (b ∷ v)) (turned r p i (b ∷ v) c k) bs ≡ true → Going r p i (b ∷ v) (words_on r (at p (Some i) (b ∷ v)) (turned r p i (b ∷ v) c k) bs) (c ∷ bs)
@@ -101,8 +101,8 @@ sound_turned r l bs ih c p i b v live NeverTurns e h = over (r.whole i (b ∷ v)
           written = f.0;
           parse = f.1;
         }
-    over true false ex ey t = absurd (both_ways false refl t)
-    over false y ex ey t = absurd (both_ways false refl t)
+    over true false ex ey t = absurd (false≢true t)
+    over false y ex ey t = absurd (false≢true t)
 
 -- from every sane state
 pub sound : (r : Rules) → Lawful r → (bs : List ℕ) → Sound r bs

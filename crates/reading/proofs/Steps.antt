@@ -1,7 +1,7 @@
 -- A step that is not refused: what it ends and gives, and how it keeps the limits.
 use Rattle.std.proofs.Common.{◌≡◌, ℕ, Bool, true, false, cond, ◌&&◌, List, [], ◌∷◌, ◌++◌, sym, refl, ap, ◌∙◌}
 use mathlib.Core.Bool.{and_assoc}
-use Rattle.std.proofs.lemmas.Bool.{both_ways, and_parts, cond-true}
+use Rattle.std.proofs.lemmas.Bool.{false≢true, and_parts, cond-true}
 use Rattle.layout.specs.Tokens.{Token}
 use Rattle.grammar.specs.Meaning.{Word, refused, gives, granted, taken}
 use Rattle.rules.specs.Rules.{Rules, Place, behind, behind_all, stand_for}
@@ -21,21 +21,21 @@ pub record Went (r : Rules) (s : State) (st : Step) : Type 0 where
 
 granted_cond : (x y : Bool) (ws : List Word) (ts : List Token) → granted (cond x (cond y (gives ws ts) (refused 5)) (refused 4)) ≡ true → (x ≡ true) × (y ≡ true)
 granted_cond true true ws ts h = (refl, refl)
-granted_cond true false ws ts h = absurd (both_ways false refl h)
-granted_cond false y ws ts h = absurd (both_ways false refl h)
+granted_cond true false ws ts h = absurd (false≢true h)
+granted_cond false y ws ts h = absurd (false≢true h)
 
 gives_cond : (x y : Bool) (ws : List Word) (ts : List Token) → x ≡ true → y ≡ true → cond x (cond y (gives ws ts) (refused 5)) (refused 4) ≡ gives ws ts
 gives_cond x y ws ts ex ey = cond-true x (cond y (gives ws ts) (refused 5)) (refused 4) ex ∙ cond-true y (gives ws ts) (refused 5) ey
 
 pub went : (r : Rules) (s : State) (st : Step) → granted (judged r s st) ≡ true → Went r s st
-went r s dead h = absurd (both_ways false refl h)
+went r s dead h = absurd (false≢true h)
 went r s (on io w ws) h =
     let ts : List Token = stand_for r s.place ws in
     let f = granted_cond (all_short (w ∷ ws)) (all_low r s.place ws) ws ts h in
     record { lives = refl; shorts = f.0; lows = f.1; answered = gives_cond (all_short (w ∷ ws)) (all_low r s.place ws) ws ts f.0 f.1 }
 
 pub goes : (r : Rules) (s : State) (st : Step) → alive st ≡ true → all_short (step_word st ∷ step_words st) ≡ true → all_low r s.place (step_words st) ≡ true → granted (judged r s st) ≡ true
-goes r s dead a x y = absurd (both_ways false refl a)
+goes r s dead a x y = absurd (false≢true a)
 goes r s (on io w ws) a x y = ap granted (gives_cond (all_short (w ∷ ws)) (all_low r s.place ws) ws (stand_for r s.place ws) x y)
 
 -- bytes that are taken are not refused, limits aside, and lead to the state behind them

@@ -1,7 +1,7 @@
 -- What is handed out of a text.
 use Rattle.std.proofs.Common.{◌≡◌, ℕ, suc, ◌+◌, ◌-◌, Bool, true, false, cond, ◌&&◌, List, [], ◌∷◌, ◌++◌, length, take, drop, Some, None, Option, sym, refl, ap, ◌∙◌, subst, append_assoc, arith}
 use Rattle.std.proofs.lemmas.List.{append-nil, length-append, take_at, drop_at}
-use Rattle.std.proofs.lemmas.Bool.{both_ways, and_parts}
+use Rattle.std.proofs.lemmas.Bool.{false≢true, and_parts}
 use Rattle.layout.specs.Tokens.{Token}
 use Rattle.grammar.specs.Meaning.{Word, Next, byte, end, Answer, refused, gives, Meaning, after, afters, granted, words_of, taken, accepted}
 use Rattle.rules.specs.declared.word.Kind.{Kind}
@@ -28,11 +28,11 @@ before_append : (xs ys : List Placed) (s : Story) → before xs (before ys s) �
 before_append xs ys s = ap (λ (zs : List Placed). record { told = zs; close = s.close }) (sym (append_assoc xs ys s.told))
 
 granted_byte : (kind : ℕ → Kind) (k : ℕ) (a : Answer) (s : Story) → granted a ≡ true → story_byte kind k a s ≡ before (placed_at kind k (words_of a)) s
-granted_byte kind k (refused n) s h = absurd (both_ways false refl h)
+granted_byte kind k (refused n) s h = absurd (false≢true h)
 granted_byte kind k (gives ws ts) s h = refl
 
 granted_end : (kind : ℕ → Kind) (k : ℕ) (a : Answer) → granted a ≡ true → story_end kind k a ≡ record { told = placed_at kind k (words_of a); close = whole }
-granted_end kind k (refused n) h = absurd (both_ways false refl h)
+granted_end kind k (refused n) h = absurd (false≢true h)
 granted_end kind k (gives ws ts) h = refl
 
 story_taken : (kind : ℕ → Kind) (m : Meaning) (k : ℕ) (bs cs : List ℕ) → taken m bs ≡ true → story kind m k (bs ++ cs) ≡ before (ended_at kind m k bs) (story kind (afters m bs) (k + length bs) cs)
@@ -165,7 +165,7 @@ parts_byte kind text k (refused n) s h = tt
 parts_byte kind text k (gives ws ts) s h = let p = h refl in parts_append text (placed_at kind k ws) s.told p.0 p.1
 
 next_tail : (r : Rules) (s : State) (st : Step) (pre : List ℕ) → Went r s st → Tail (step_word st) pre → Tail (next r s st).word pre
-next_tail r s dead pre w t = absurd (both_ways false refl w.lives)
+next_tail r s dead pre w t = absurd (false≢true w.lives)
 next_tail r s (on io v ws) pre w t = t
 
 parts_story : (r : Rules) → Lawful r → (s : State) (pre bs : List ℕ) (k : ℕ) → Fit r s → Tail s.word pre → length pre ≡ k → AllParts (pre ++ bs) (story r.kind (means r s) k bs).told

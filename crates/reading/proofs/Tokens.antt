@@ -35,7 +35,7 @@ nest_append n (Break blanks offset ∷ ts) us = nest_append n ts us
 nest_append n (Opening offset fold anchor ∷ ts) us = nest_append (suc n) ts us
 nest_append n (Ending ∷ ts) us = nest_append (pred n) ts us
 
-fewer : (ks : List Bracket) → pred (length ks) ≡ length (without_innermost ks)
+pub fewer : (ks : List Bracket) → pred (length ks) ≡ length (without_innermost ks)
 fewer [] = refl
 fewer (k ∷ ks) = refl
 

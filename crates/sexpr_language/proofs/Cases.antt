@@ -1,6 +1,6 @@
 -- Cases by class.
-use Rattle.std.proofs.Common.{◌≡◌, true, false, refl}
-use Rattle.std.proofs.lemmas.Bool.{both_ways}
+use Rattle.std.proofs.Common.{◌≡◌, true, false}
+use Rattle.std.proofs.lemmas.Bool.{false≢true}
 use Rattle.sexpr_language.specs.declared.class.Class.{Class}
 use Rattle.sexpr_language.specs.declared.class.Class.TheVariants.{Control, Blank, Space, Quote, Open, Close, Backslash, Atom, Barred}
 
@@ -17,4 +17,4 @@ by_class P control blank space quote opens closes backslash atom barred Atom = a
 by_class P control blank space quote opens closes backslash atom barred Barred = barred
 
 pub never : {X : Type 0} → false ≡ true → X
-never h = absurd (both_ways false refl h)
+never h = absurd (false≢true h)

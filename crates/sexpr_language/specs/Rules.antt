@@ -17,7 +17,7 @@ use Rattle.rules.specs.declared.place.Expects.{Expects}
 use Rattle.rules.specs.declared.place.Expects.TheVariants.{First, Next, Colon, Value, After}
 use Rattle.rules.specs.declared.place.Move.{Move}
 use Rattle.rules.specs.declared.place.Move.TheVariants.{Within, Opens, Closes}
-use Rattle.layout.specs.declared.token.Break.{Break as Lead}
+use Rattle.layout.specs.declared.token.Break.{Break}
 use Rattle.rules.specs.Rules.{Rules}
 use Rattle.rules.specs.Escapes.{escape_of}
 use Rattle.sexpr_language.specs.declared.class.Class.{Class}
@@ -141,11 +141,11 @@ place_moves Value k c = None
 place_moves After k c = class_moves k c
 
 -- the Break between an expression and the next
-abbrev pub one_blank : Lead
+abbrev pub one_blank : Break
 one_blank = record { blanks = 1; offset = pos 0 }
 
 -- behind an expression: none before a closing parenthesis
-abbrev pub class_lead : Class → Option Lead
+abbrev pub class_lead : Class → Option Break
 class_lead Control = Some one_blank
 class_lead Blank = Some one_blank
 class_lead Space = Some one_blank
@@ -157,7 +157,7 @@ class_lead Atom = Some one_blank
 class_lead Barred = Some one_blank
 
 -- none before the first of a list
-abbrev pub place_lead : Expects → Class → Option Lead
+abbrev pub place_lead : Expects → Class → Option Break
 place_lead First c = None
 place_lead Next c = None
 place_lead Colon c = None
