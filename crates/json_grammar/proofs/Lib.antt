@@ -1,3 +1,3 @@
 pub mod Sorts
 pub mod Escapes
-pub mod Begun
+pub mod Compared

@@ -6,7 +6,7 @@ ghost use Rattle.json_language.specs.Rules.{goes_on, literal_goes_on, literal_wh
 const LITERALS: [&[u8]; 3] = [b"true", b"false", b"null"];
 
 // Do these bytes and this byte begin the literal?
-#[tactic(auto, using(crate::proofs::Begun::goes_on_started))]
+#[tactic(auto, using(crate::proofs::Compared::goes_on_started))]
 fn goes_on(literal: &[u8], word: &[u8], byte: u8) -> bool
     ensures { result ≡ goes_on literal.now word.now byte }
 {

@@ -1,9 +1,9 @@
 -- Refusal 5 comes exactly at a 65th open bracket.
-use Rattle.std.proofs.Common.{◌≡◌, ℕ, suc, ◌+◌, ◌<◌, ◌≤◌, Bool, true, false, cond, ◌&&◌, eqb, leb, ◌⊎◌, List, [], ◌∷◌, ◌++◌, length, Some, None, Option, sym, refl, ap, ◌∙◌, subst, inl, inr, ⊎_elim, arith}
+use Rattle.std.proofs.Common.{◌≡◌, ℕ, suc, ◌+◌, ◌<◌, ◌≤◌, Bool, true, false, cond, ◌&&◌, leb, ◌⊎◌, List, [], ◌∷◌, ◌++◌, length, Some, None, Option, sym, refl, ap, ◌∙◌, subst, inl, inr, ⊎_elim, arith}
 use Rattle.std.proofs.lemmas.List.{append-nil}
 use Rattle.std.proofs.lemmas.Bool.{both_ways, false≢true, true≢false, and_parts, and_from, and_left, and_right, and_cases, cond-true, cond-false}
 use Rattle.layout.specs.Tokens.{Token}
-use Rattle.grammar.specs.Meaning.{Word, Answer, refused, gives, granted, taken, ended}
+use Rattle.grammar.specs.Meaning.{Word, refused, gives, granted, taken, ended}
 use Rattle.grammar.specs.Laws.{most_open}
 use Rattle.rules.specs.declared.word.Inside.{Inside}
 use Rattle.rules.specs.declared.word.Begin.{Begin}
@@ -55,17 +55,13 @@ low_live r l p i [] v live h = absurd live
 low_live r l p i (b ∷ w) v live h = let s = starts_first r i (b ∷ w) live.0 in low_behind r l p b (w ++ v) s.0 s.1 ∙ h
 
 -- only too many brackets are refused by 5
-abbrev is_five : Answer → Bool
-is_five (refused n) = eqb n 5
-is_five (gives ws ts) = false
-
 five_cond : (x y : Bool) (ws : List Word) (ts : List Token) → cond x (cond y (gives ws ts) (refused 5)) (refused 4) ≡ refused 5 → y ≡ false
-five_cond true true ws ts e = absurd (false≢true (ap is_five e))
+five_cond true true ws ts e = cc
 five_cond true false ws ts e = refl
-five_cond false y ws ts e = absurd (false≢true (ap is_five e))
+five_cond false y ws ts e = cc
 
 five_low : (r : Rules) (s : State) (st : Step) → judged r s st ≡ refused 5 → all_low r s.place (step_words st) ≡ false
-five_low r s dead e = absurd (false≢true (ap is_five e))
+five_low r s dead e = cc
 five_low r s (on io w ws) e = five_cond (all_short (w ∷ ws)) (all_low r s.place ws) ws (stand_for r s.place ws) e
 
 low_five : (r : Rules) (s : State) (io : Option Inside) (w : Word) (ws : List Word) → all_short (w ∷ ws) ≡ true → all_low r s.place ws ≡ false → judged r s (on io w ws) ≡ refused 5

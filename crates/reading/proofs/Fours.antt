@@ -1,9 +1,9 @@
 -- Refusal 4 comes exactly at a word's 256th byte.
-use Rattle.std.proofs.Common.{◌≡◌, ℕ, suc, ◌+◌, ◌-◌, ◌<◌, ◌≤◌, Bool, true, false, cond, ◌&&◌, eqb, ◌⊎◌, List, [], ◌∷◌, ◌++◌, length, Some, None, Option, sym, refl, ap, ◌∙◌, subst, inl, inr, ⊎_elim, arith}
+use Rattle.std.proofs.Common.{◌≡◌, ℕ, suc, ◌+◌, ◌-◌, ◌<◌, ◌≤◌, Bool, true, false, cond, ◌&&◌, ◌⊎◌, List, [], ◌∷◌, ◌++◌, length, Some, None, Option, sym, refl, ap, ◌∙◌, subst, inl, inr, ⊎_elim, arith}
 use Rattle.std.proofs.lemmas.List.{append-nil, length-append}
 use Rattle.std.proofs.lemmas.Bool.{both_ways, false≢true, true≢false, and_parts, and_from, and_left, cases_Bool, cond-true, cond-false, leb-true, leb-false, lt-leb}
 use Rattle.layout.specs.Tokens.{Token}
-use Rattle.grammar.specs.Meaning.{Word, Answer, refused, gives, taken}
+use Rattle.grammar.specs.Meaning.{Word, refused, gives, taken}
 use Rattle.grammar.specs.Laws.{most_bytes}
 use Rattle.rules.specs.declared.word.Inside.{Inside}
 use Rattle.rules.specs.declared.word.Begin.{Begin}
@@ -77,21 +77,16 @@ not_to_come n j (x ∷ xs) l e (inl h) = let a = e.0 in let b = h.0 in omega ari
 not_to_come n j (x ∷ xs) l e (inr h) = not_to_come n j xs l e.1 h
 
 -- a step that ends and leaves short words is not refused by 4
-abbrev is_four : Answer → Bool
-is_four (refused n) = eqb n 4
-is_four (gives ws ts) = false
-
-four_low : (y : Bool) (ws : List Word) (ts : List Token) → is_four (cond y (gives ws ts) (refused 5)) ≡ false
-four_low true ws ts = refl
-four_low false ws ts = refl
+four_low : (y : Bool) (ws : List Word) (ts : List Token) → cond y (gives ws ts) (refused 5) ≡ refused 4 → ⊥
+four_low true ws ts e = cc
+four_low false ws ts e = cc
 
 pub short_not_four : (r : Rules) (s : State) (st : Step) → all_short (step_word st ∷ step_words st) ≡ true → judged r s st ≡ refused 4 → ⊥
-short_not_four r s dead h e = both_ways (is_four (judged r s dead)) refl (ap is_four e)
+short_not_four r s dead h e = cc
 short_not_four r s (on io w ws) h e =
     let ts : List Token = stand_for r s.place ws in
     let y : Bool = all_low r s.place ws in
-    both_ways (is_four (judged r s (on io w ws)))
-    (ap is_four (cond-true (all_short (w ∷ ws)) (cond y (gives ws ts) (refused 5)) (refused 4) h) ∙ four_low y ws ts) (ap is_four e)
+    four_low y ws ts (sym (cond-true (all_short (w ∷ ws)) (cond y (gives ws ts) (refused 5)) (refused 4) h) ∙ e)
 
 pub long_four : (r : Rules) (s : State) (io : Option Inside) (w : Word) (ws : List Word) → all_short (w ∷ ws) ≡ false → judged r s (on io w ws) ≡ refused 4
 long_four r s io w ws h = cond-false (all_short (w ∷ ws)) (cond (all_low r s.place ws) (gives ws (stand_for r s.place ws)) (refused 5)) (refused 4) h

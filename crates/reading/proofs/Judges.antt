@@ -1,8 +1,8 @@
 -- Refusal 3 comes exactly where no document of the language goes on.
-use Rattle.std.proofs.Common.{◌≡◌, ℕ, Bool, true, false, cond, eqb, List, [], ◌∷◌, ◌++◌, None, sym, refl, ap, ◌∙◌, subst, ⊎_elim, append_assoc}
+use Rattle.std.proofs.Common.{◌≡◌, ℕ, Bool, true, false, cond, List, [], ◌∷◌, ◌++◌, None, sym, refl, ◌∙◌, subst, ⊎_elim, append_assoc}
 use Rattle.std.proofs.lemmas.Bool.{both_ways, true≢false, and_parts, and_from, cases_Bool}
 use Rattle.layout.specs.Tokens.{Token}
-use Rattle.grammar.specs.Meaning.{Word, Answer, refused, gives, taken}
+use Rattle.grammar.specs.Meaning.{Word, refused, gives, taken}
 use Rattle.rules.specs.Rules.{Rules, stand_for}
 use Rattle.rules.specs.Machine.{State, Step, dead, on, step, next, run, judged, fresh, first_place, grammar_of, all_short, all_low}
 use Rattle.rules.specs.Language.{DocumentBy}
@@ -28,20 +28,15 @@ accepted_document r l bs h =
     let q = sound r l bs (first_place r) None [] tt h in
     record { document_words = words_from r (fresh r) bs; written = q.0; sentence = q.1 }
 
-abbrev is_three : Answer → Bool
-is_three (refused n) = eqb n 3
-is_three (gives ws ts) = false
-
 -- only a dead step is refused by 3
-three_cond : (x y : Bool) (ws : List Word) (ts : List Token) → is_three (cond x (cond y (gives ws ts) (refused 5)) (refused 4)) ≡ false
-three_cond true true ws ts = refl
-three_cond true false ws ts = refl
-three_cond false y ws ts = refl
+three_cond : (x y : Bool) (ws : List Word) (ts : List Token) → cond x (cond y (gives ws ts) (refused 5)) (refused 4) ≡ refused 3 → ⊥
+three_cond true true ws ts e = cc
+three_cond true false ws ts e = cc
+three_cond false y ws ts e = cc
 
 three_dead : (r : Rules) (s : State) (st : Step) → judged r s st ≡ refused 3 → alive st ≡ false
 three_dead r s dead e = refl
-three_dead r s (on io w ws) e =
-    absurd (both_ways (is_three (judged r s (on io w ws))) (three_cond (all_short (w ∷ ws)) (all_low r s.place ws) ws (stand_for r s.place ws)) (ap is_three e))
+three_dead r s (on io w ws) e = absurd (three_cond (all_short (w ∷ ws)) (all_low r s.place ws) ws (stand_for r s.place ws) e)
 
 dead_three : (r : Rules) (s : State) (st : Step) → alive st ≡ false → judged r s st ≡ refused 3
 dead_three r s dead h = refl

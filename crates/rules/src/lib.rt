@@ -3,7 +3,7 @@
 //
 // `specs/` has what rules are, the machine that reads by them, the language that they describe without
 // a machine, and what rules must show for the two to agree. A grammar is one set of rules. It is a
-// theory: only the names of its parts and a step that grammars share are code.
+// theory: only the names of its parts and the steps in strings that grammars share are code.
 #![tactic(auto)]
 
 pub mod escape;
