@@ -1,11 +1,11 @@
 -- The first token passes, or the sink cuts it.
-use Rattle.std.proofs.Common.{◌≡◌, ℕ, suc, pred, ◌+◌, ◌-◌, ◌^◌, min, Bool, true, List, [], ◌∷◌, ◌++◌, length, Ok, Err, Result, sym, refl, ap, ◌∙◌, subst, arith}
+use Rattle.std.proofs.Common.{◌≡◌, ℕ, suc, pred, ◌+◌, ◌-◌, ◌^◌, min, Bool, true, List, [], ◌∷◌, ◌++◌, length, Some, None, Ok, Err, Result, sym, refl, ap, ◌∙◌, subst, arith}
 use Rattle.layout.specs.declared.token.Block.{Block}
 use Rattle.layout.specs.Tokens.{Token, Text, Break, Opening, Ending}
 use Rattle.layout.specs.Layout.{Pen as LayoutPen, enclosing, writes, after, fits}
 use Rattle.layout.specs.Passing.{pass}
 use Rattle.layout.proofs.Passes.{pass_off}
-use Rattle.stream.specs.declared.record.Held.{Held}
+use Rattle.layout.specs.declared.token.Token.{Token as Held}
 use Rattle.stream.specs.Recorded.{shape, deeper, Shallow}
 use Rattle.scan.specs.Holding.{Holds}
 use Rattle.scan.specs.declared.scan.Scan.{Scan}
@@ -14,18 +14,16 @@ use Rattle.sink.specs.declared.fault.SinkFault.{SinkFault}
 use Rattle.sink.specs.Rule.{Beginnings, Rule, kept}
 use Rattle.sink.specs.Fault.{Cut}
 use Rattle.sink.proofs.Kept.{kept_all}
-use Rattle.printer.specs.declared.fault.AtToken.{AtToken}
 use Rattle.printer.specs.declared.fault.PrinterFault.{PrinterFault}
 use Rattle.printer.specs.declared.fault.PrinterFault.TheVariants.{Sink}
 use Rattle.printer.specs.declared.printer.Printer.{Printer}
-use Rattle.printer.specs.declared.printer.passing.Turn.TheVariants.{Wait, Pass}
 use Rattle.printer.specs.Faults.{numbered}
 use Rattle.printer.specs.Printing.{Prints, Turned, Moved, Stepped, Decided, piece, next, Advanced}
 
 -- what the numbered answer says of the sink's
-pub numbered_err : (token : ℕ) (r : Result (Unit {0}) SinkFault) (a : AtToken) → numbered token r ≡ Err a → (f : SinkFault) × (r ≡ Err f) × (a ≡ record { fault = f; token = token })
-numbered_err token (Ok u) a e = let z : ◌≡◌ {A = ℕ} 0 1 = cc in absurd (omega arith)
-numbered_err token (Err f) a e = (f, refl, cc)
+pub numbered_err : (token : ℕ) (r : Result (Unit {0}) SinkFault) (p : PrinterFault) → numbered token r ≡ Err p → (f : SinkFault) × (r ≡ Err f) × (p ≡ Sink f token)
+numbered_err token (Ok u) p e = let z : ◌≡◌ {A = ℕ} 0 1 = cc in absurd (omega arith)
+numbered_err token (Err f) p e = (f, refl, cc)
 
 pub numbered_ok : (token : ℕ) (r : Result (Unit {0}) SinkFault) (u : Unit {0}) → numbered token r ≡ Ok u → r ≡ Ok tt
 numbered_ok token (Ok v) u e = refl
@@ -42,16 +40,16 @@ blocks_after m pen (Opening o fold anchor) f = refl
 blocks_after m pen Ending f = enclosing_length pen.blocks
 
 -- nothing passes
-pub waits_here : (over : Bool) (m : ℕ) (pen : LayoutPen) (h : List Token) → Turned over m pen h Wait → pass over m pen h ≡ record { pieces = []; pen = pen; held = h }
+pub waits_here : (over : Bool) (m : ℕ) (pen : LayoutPen) (h : List Token) → Turned over m pen h None → pass over m pen h ≡ record { pieces = []; pen = pen; held = h }
 waits_here over m pen [] t = refl
 waits_here over m pen (t ∷ ts) e = pass_off over m pen t ts e
 
 -- what writing the first token comes to
-abbrev pub FirstStepped : ℕ → LayoutPen → ℕ → List ℕ → Held → Bool → Rule → List ℕ → ℕ → List ℕ → Printer → Printer → Result (Unit {0}) SinkFault → Type 0
+abbrev pub FirstStepped : ℕ → LayoutPen → ℕ → List ℕ → Held ℕ → Bool → Rule → List ℕ → ℕ → List ℕ → Printer → Printer → Result (Unit {0}) SinkFault → Type 0
 FirstStepped m pen number out s f rule before older text p p' r = (t : Token) (ts : List Token) → Prints m pen (t ∷ ts) number out p → s ≡ shape t → Stepped rule before (writes m pen t f) older text (Moved m (after m pen t f) (out ++ writes m pen t f) p p') r
 
-pub advance_cut : (over : Bool) (m : ℕ) (pen : LayoutPen) (h : List Token) (number : ℕ) (out : List ℕ) (s : Held) (f : Bool) (rule : Rule) (before : List ℕ) (older : ℕ) (text : List ℕ) (p p' : Printer) (r : Result (Unit {0}) SinkFault) (g : SinkFault) (fault : PrinterFault)
-    → Turned over m pen h (Pass s f) → Prints m pen h number out p → FirstStepped m pen number out s f rule before older text p p' r → r ≡ Err g → fault ≡ Sink g p.passed
+pub advance_cut : (over : Bool) (m : ℕ) (pen : LayoutPen) (h : List Token) (number : ℕ) (out : List ℕ) (s : Held ℕ) (f : Bool) (rule : Rule) (before : List ℕ) (older : ℕ) (text : List ℕ) (p p' : Printer) (r : Result (Unit {0}) SinkFault) (g : SinkFault) (fault : PrinterFault)
+    → Turned over m pen h (Some (s, f)) → Prints m pen h number out p → FirstStepped m pen number out s f rule before older text p p' r → r ≡ Err g → fault ≡ Sink g p.passed
     → Advanced over m pen h number out rule before older text p' (Err fault)
 advance_cut over m pen [] number out s f rule before older text p p' r g fault tn pr st e q = absurd tn
 advance_cut over m pen (t ∷ ts) number out s f rule before older text p p' r g fault tn pr st e q =
@@ -63,8 +61,8 @@ advance_cut over m pen (t ∷ ts) number out s f rule before older text p p' r g
       q ∙ ap (Sink g) pr.passed,
     )
 
-pub advance_ok : (over : Bool) (m : ℕ) (pen : LayoutPen) (h : List Token) (number : ℕ) (out : List ℕ) (s : Held) (f : Bool) (rule : Rule) (before : List ℕ) (older : ℕ) (text : List ℕ) (p p' p'' : Printer) (r : Result (Unit {0}) SinkFault)
-    → Beginnings rule.admits → Turned over m pen h (Pass s f) → Prints m pen h number out p → FirstStepped m pen number out s f rule before older text p p' r → r ≡ Ok tt
+pub advance_ok : (over : Bool) (m : ℕ) (pen : LayoutPen) (h : List Token) (number : ℕ) (out : List ℕ) (s : Held ℕ) (f : Bool) (rule : Rule) (before : List ℕ) (older : ℕ) (text : List ℕ) (p p' p'' : Printer) (r : Result (Unit {0}) SinkFault)
+    → Beginnings rule.admits → Turned over m pen h (Some (s, f)) → Prints m pen h number out p → FirstStepped m pen number out s f rule before older text p p' r → r ≡ Ok tt
     → ((k d : ℕ) (t : Token) (ts : List Token) → Holds k d (t ∷ ts) p'.scan → Holds (suc k) (deeper d t) ts p''.scan)
     → p''.pen ≡ p'.pen → p''.passed ≡ min (p.passed + 1) (2 ^ 64 - 1)
     → Advanced over m pen h number out rule before older text p'' (Ok true)

@@ -1,11 +1,11 @@
 -- The first token is written, by its shape.
-use Rattle.std.proofs.Common.{◌≡◌, ℕ, ◌≤◌, Bool, true, List, [], ◌∷◌, ◌++◌, length, ℤ, Ok, Result, sym, ap, ◌∙◌, subst, arith}
+use Rattle.std.proofs.Common.{◌≡◌, ℕ, ◌≤◌, Bool, true, List, [], ◌∷◌, ◌++◌, length, Ok, Result, sym, ap, ◌∙◌, subst, arith}
 use Rattle.std.proofs.lemmas.List.{append-nil}
-use Rattle.layout.specs.declared.token.Fold.{Fold}
-use Rattle.layout.specs.declared.token.Anchor.{Anchor}
+use Rattle.layout.specs.declared.token.Break.{Break as Gap}
+use Rattle.layout.specs.declared.token.Opening.{Opening as Block}
 use Rattle.layout.specs.Tokens.{Token, Text, Break, Opening, Ending}
 use Rattle.layout.specs.Layout.{Pen as LayoutPen, writes, after}
-use Rattle.stream.specs.declared.record.Held.TheVariants.{Text as TextHeld, Break as BreakHeld, Opening as OpeningHeld, Ending as EndingHeld}
+use Rattle.layout.specs.declared.token.Token.TheVariants.{Text as TextHeld, Break as BreakHeld, Opening as OpeningHeld, Ending as EndingHeld}
 use Rattle.stream.specs.Recorded.{shape, Shallow}
 use Rattle.pen.specs.At.{At}
 use Rattle.sink.specs.declared.fault.SinkFault.{SinkFault}
@@ -28,21 +28,17 @@ by_text P (Break blanks offset) n e f = let z : ◌≡◌ {A = ℕ} 0 1 = cc in 
 by_text P (Opening offset fold anchor) n e f = let z : ◌≡◌ {A = ℕ} 0 1 = cc in absurd (omega arith)
 by_text P Ending n e f = let z : ◌≡◌ {A = ℕ} 0 1 = cc in absurd (omega arith)
 
-pub by_break : (P : Token → Type 0) (t : Token) (n : ℕ) (o : ℤ) → BreakHeld n o ≡ shape t → P (Break n o) → P t
-by_break P (Text bytes) n o e f = let z : ◌≡◌ {A = ℕ} 0 1 = cc in absurd (omega arith)
-by_break P (Break blanks offset) n o e f =
-    let p : n ≡ blanks = cc e in let q : o ≡ offset = cc e in
-    subst (λ (x : ℤ). P (Break blanks x)) q (subst (λ (x : ℕ). P (Break x o)) p f)
-by_break P (Opening offset fold anchor) n o e f = let z : ◌≡◌ {A = ℕ} 0 1 = cc in absurd (omega arith)
-by_break P Ending n o e f = let z : ◌≡◌ {A = ℕ} 0 1 = cc in absurd (omega arith)
+pub by_break : (P : Token → Type 0) (t : Token) (b : Gap) → BreakHeld b ≡ shape t → P (Break b.blanks b.offset) → P t
+by_break P (Text bytes) b e f = let z : ◌≡◌ {A = ℕ} 0 1 = cc in absurd (omega arith)
+by_break P (Break blanks offset) b e f = let q : b ≡ record { blanks = blanks; offset = offset } = cc e in subst (λ (x : Gap). P (Break x.blanks x.offset)) q f
+by_break P (Opening offset fold anchor) b e f = let z : ◌≡◌ {A = ℕ} 0 1 = cc in absurd (omega arith)
+by_break P Ending b e f = let z : ◌≡◌ {A = ℕ} 0 1 = cc in absurd (omega arith)
 
-pub by_opening : (P : Token → Type 0) (t : Token) (o : ℤ) (fold : Fold) (anchor : Anchor) → OpeningHeld o fold anchor ≡ shape t → P (Opening o fold anchor) → P t
-by_opening P (Text bytes) o x y e f = let z : ◌≡◌ {A = ℕ} 0 1 = cc in absurd (omega arith)
-by_opening P (Break blanks offset) o x y e f = let z : ◌≡◌ {A = ℕ} 0 1 = cc in absurd (omega arith)
-by_opening P (Opening offset fold anchor) o x y e f =
-    let p : o ≡ offset = cc e in let q : x ≡ fold = cc e in let r : y ≡ anchor = cc e in
-    subst (λ (w : ℤ). P (Opening w fold anchor)) p (subst (λ (w : Fold). P (Opening o w anchor)) q (subst (λ (w : Anchor). P (Opening o x w)) r f))
-by_opening P Ending o x y e f = let z : ◌≡◌ {A = ℕ} 0 1 = cc in absurd (omega arith)
+pub by_opening : (P : Token → Type 0) (t : Token) (o : Block) → OpeningHeld o ≡ shape t → P (Opening o.offset o.fold o.anchor) → P t
+by_opening P (Text bytes) o e f = let z : ◌≡◌ {A = ℕ} 0 1 = cc in absurd (omega arith)
+by_opening P (Break blanks offset) o e f = let z : ◌≡◌ {A = ℕ} 0 1 = cc in absurd (omega arith)
+by_opening P (Opening offset fold anchor) o e f = let q : o ≡ record { offset = offset; fold = fold; anchor = anchor } = cc e in subst (λ (x : Block). P (Opening x.offset x.fold x.anchor)) q f
+by_opening P Ending o e f = let z : ◌≡◌ {A = ℕ} 0 1 = cc in absurd (omega arith)
 
 pub by_ending : (P : Token → Type 0) (t : Token) → EndingHeld ≡ shape t → P Ending → P t
 by_ending P (Text bytes) e f = let z : ◌≡◌ {A = ℕ} 0 1 = cc in absurd (omega arith)

@@ -1,14 +1,13 @@
 -- The faults of a print.
 use Rattle.std.specs.Prelude.{ℕ, Ok, Err, Result}
 use Rattle.sink.specs.declared.fault.SinkFault.{SinkFault}
-use Rattle.printer.specs.declared.fault.AtToken.{AtToken}
 use Rattle.printer.specs.declared.fault.PrinterFault.{PrinterFault}
 use Rattle.printer.specs.declared.fault.PrinterFault.TheVariants.{Full, Sink}
 
 -- a sink's answer, with the number of the token that was being written
-abbrev pub numbered : ℕ → Result (Unit {0}) SinkFault → Result (Unit {0}) AtToken
+abbrev pub numbered : ℕ → Result (Unit {0}) SinkFault → Result (Unit {0}) PrinterFault
 numbered token (Ok u) = Ok u
-numbered token (Err f) = Err (record { fault = f; token = token })
+numbered token (Err f) = Err (Sink f token)
 
 -- the number of each fault: 7 where 384 tokens are held back already, else the sink's
 abbrev pub number_of : PrinterFault → ℕ

@@ -1,9 +1,10 @@
 -- Where a printer stands, and what a call of it leaves.
-use Rattle.std.specs.Prelude.{◌≡◌, ℕ, suc, ◌+◌, ◌-◌, ◌^◌, ◌<◌, min, Bool, true, false, cond, List, [], ◌∷◌, ◌++◌, length, IfOk, Ok, Err, Result, nat_lt}
+use Rattle.std.specs.Prelude.{◌≡◌, ℕ, suc, ◌+◌, ◌-◌, ◌^◌, ◌<◌, min, Bool, true, false, cond, List, [], ◌∷◌, ◌++◌, length, IfOk, Some, None, Ok, Err, Option, Result, nat_lt}
 use Rattle.lines.specs.Lines.{newlines}
 use Rattle.layout.specs.Tokens.{Token}
 use Rattle.layout.specs.Layout.{Pen as LayoutPen, writes, after, fits, joined}
 use Rattle.layout.specs.Passing.{decided, pass}
+use Rattle.layout.specs.declared.token.Token.{Token as Held}
 use Rattle.stream.specs.Recorded.{shape, text_of, Shallow}
 use Rattle.scan.specs.Holding.{Holds}
 use Rattle.pen.specs.At.{At}
@@ -13,8 +14,6 @@ use Rattle.sink.specs.Fault.{Cut, fault_of}
 use Rattle.printer.specs.declared.fault.PrinterFault.{PrinterFault}
 use Rattle.printer.specs.declared.fault.PrinterFault.TheVariants.{Sink}
 use Rattle.printer.specs.Writing.{Wrote}
-use Rattle.printer.specs.declared.printer.passing.Turn.{Turn}
-use Rattle.printer.specs.declared.printer.passing.Turn.TheVariants.{Wait, Pass}
 use Rattle.printer.specs.declared.printer.Printer.{Printer}
 
 -- token numbers stop at 2^64 - 1
@@ -37,11 +36,11 @@ pub record Prints (m : ℕ) (pen : LayoutPen) (held : List Token) (number : ℕ)
 
 -- Whether the first of the tokens passes: it waits, or it passes with an answer to whether it fits, by which it writes
 -- and moves on as the layout has it.
-abbrev pub Turned : Bool → ℕ → LayoutPen → List Token → Turn → Type 0
-Turned over m pen [] Wait = Unit {0}
-Turned over m pen [] (Pass s f) = ⊥
-Turned over m pen (t ∷ ts) Wait = decided over m pen t ts ≡ false
-Turned over m pen (t ∷ ts) (Pass s f) = (decided over m pen t ts ≡ true) × (s ≡ shape t) × (writes m pen t f ≡ writes m pen t (fits m pen t ts)) × (after m pen t f ≡ after m pen t (fits m pen t ts))
+abbrev pub Turned : Bool → ℕ → LayoutPen → List Token → Option (Held ℕ × Bool) → Type 0
+Turned over m pen [] None = Unit {0}
+Turned over m pen [] (Some (s, f)) = ⊥
+Turned over m pen (t ∷ ts) None = decided over m pen t ts ≡ false
+Turned over m pen (t ∷ ts) (Some (s, f)) = (decided over m pen t ts ≡ true) × (s ≡ shape t) × (writes m pen t f ≡ writes m pen t (fits m pen t ts)) × (after m pen t f ≡ after m pen t (fits m pen t ts))
 
 -- the printer has written a token's piece: the pen has moved on, and all else is as it was
 pub record Moved (m : ℕ) (pen : LayoutPen) (out : List ℕ) (p p' : Printer) : Type 0 where

@@ -1,9 +1,10 @@
 // What ends a print: too many tokens held back, or a sink that refuses.
 ghost use Rattle.std.specs.Prelude.{◌≡◌};
-ghost use Rattle.printer.specs.declared.fault.PrinterFault.TheVariants.{Sink as SinkRefused};
 ghost use Rattle.printer.specs.Faults.{numbered, number_of, layer_of, token_of};
 
 use sink::fault::SinkFault;
+use std::error::Error;
+use std::fmt;
 
 #[derive(Clone, Copy, PartialEq, Eq, Debug)]
 pub enum PrinterFault {
@@ -11,34 +12,6 @@ pub enum PrinterFault {
     Full { token: u64 },
     // The sink's fault, whole, and the number of the token not wholly written.
     Sink { fault: SinkFault, token: u64 },
-}
-
-// A sink's fault, with the number of the token that was being written.
-#[derive(Clone, Copy)]
-pub struct AtToken {
-    pub fault: SinkFault,
-    pub token: u64,
-}
-
-impl From<AtToken> for PrinterFault {
-    ghost from_gives = { λ a r. r ≡ SinkRefused a.fault a.token };
-
-    fn from(a: AtToken) -> PrinterFault {
-        PrinterFault::Sink {
-            fault: a.fault,
-            token: a.token,
-        }
-    }
-}
-
-// Adds the token's number to a fault.
-pub fn at_token(r: Result<(), SinkFault>, token: u64) -> Result<(), AtToken>
-    ensures { result ≡ numbered token r }
-{
-    match r {
-        Ok(()) => Ok(()),
-        Err(fault) => Err(AtToken { fault, token }),
-    }
 }
 
 impl PrinterFault {
@@ -67,8 +40,24 @@ impl PrinterFault {
         ensures { result ≡ token_of self.now }
     {
         match self {
-            PrinterFault::Full { token } => *token,
-            PrinterFault::Sink { fault: _, token } => *token,
+            PrinterFault::Full { token } | PrinterFault::Sink { fault: _, token } => *token,
         }
     }
 }
+
+// What a sink's write of that token comes to.
+pub fn at_token(written: Result<(), SinkFault>, token: u64) -> Result<(), PrinterFault>
+    ensures { result ≡ numbered token written }
+{
+    written.map_err(|fault| PrinterFault::Sink { fault, token })
+}
+
+impl fmt::Display for PrinterFault {
+    fn fmt<W: fmt::Write>(&self, f: &mut fmt::Formatter<W>) -> fmt::Result {
+        let number = self.number();
+        let token = self.token();
+        write!(f, "{number} at token {token}")
+    }
+}
+
+impl Error for PrinterFault {}

@@ -7,7 +7,7 @@ pub mod asking;
 pub mod giving;
 pub mod passing;
 
-#[derive(Clone, Copy)]
+#[derive(Clone, Drop)]
 pub struct Printer {
     scan: Scan,
     pen: Pen,

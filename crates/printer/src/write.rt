@@ -1,27 +1,12 @@
-// Writes into a sink what is decided already: two runs of a Text, or a Break.
-ghost use Rattle.std.specs.Prelude.{◌≡◌, ◌++◌};
+// Writes into a sink what is decided already: a Break.
+ghost use Rattle.std.specs.Prelude.{◌≡◌};
 ghost use Rattle.pen.specs.At.{bytes_of};
 ghost use Rattle.printer.specs.Writing.{Wrote};
 
 use pen::breaking::Breaking;
 use sink::fault::SinkFault;
 use sink::sink::Sink;
-use sink::write::{write, write_blanks, write_line};
-
-// Writes one run behind another.
-pub(crate) fn write_both<S: Sink>(
-    sink: &mut S,
-    older: usize,
-    first: &[u8],
-    second: &[u8],
-) -> Result<(), SinkFault>
-    ensures rule { S.Sink.rule sink.new ≡ S.Sink.rule sink.old }
-    ensures later { S.Sink.later sink.old sink.new }
-    ensures writes { Wrote (S.Sink.rule sink.old) (S.Sink.text sink.old) (first.now ++ second.now) older (S.Sink.text sink.new) result }
-{
-    write(sink, older, first)?;
-    write(sink, older, second)
-}
+use sink::write::{write_blanks, write_line};
 
 // Writes blanks, or a newline and blanks, with nothing left to decide.
 pub(crate) fn write_breaking<S: Sink>(
@@ -29,7 +14,6 @@ pub(crate) fn write_breaking<S: Sink>(
     older: usize,
     how: Breaking,
 ) -> Result<(), SinkFault>
-    ensures rule { S.Sink.rule sink.new ≡ S.Sink.rule sink.old }
     ensures later { S.Sink.later sink.old sink.new }
     ensures writes { Wrote (S.Sink.rule sink.old) (S.Sink.text sink.old) (bytes_of how) older (S.Sink.text sink.new) result }
 {

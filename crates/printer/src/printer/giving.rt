@@ -6,7 +6,7 @@ ghost use Rattle.layout.specs.Layout.{Pen as LayoutPen, start};
 ghost use Rattle.printer.specs.Printing.{Prints};
 ghost use Rattle.printer.specs.Giving.{Room, Next, Given, Ended, Finished};
 
-use crate::fault::{AtToken, PrinterFault, at_token};
+use crate::fault::{PrinterFault, at_token};
 use crate::printer::Printer;
 use layout::margin::Margin;
 use layout::token::Token;
@@ -31,8 +31,7 @@ impl Printer {
     }
 
     // A token comes.
-    pub fn give<S: Sink>(&mut self, sink: &mut S, token: Token<'_>) -> Result<(), PrinterFault>
-        ensures rule { S.Sink.rule sink.new ≡ S.Sink.rule sink.old }
+    pub fn give<S: Sink>(&mut self, sink: &mut S, token: Token<&[u8]>) -> Result<(), PrinterFault>
         ensures later { S.Sink.later sink.old sink.new }
         ensures older { self.new.older ≡ self.old.older }
         ensures gives { (m : ℕ) (pen : LayoutPen) (h : List LayoutToken) (number : ℕ) (out : List ℕ) → Prints m pen h number out self.old → widths h ≤ 120 → Next (length pen.blocks) h (view token.entry) → Given m pen h number out (view token.entry) (S.Sink.rule sink.old) (S.Sink.text sink.old) self.old.older (S.Sink.text sink.new) self.new ((self.new ≡ self.old) × (sink.new ≡ sink.old)) result }
@@ -44,7 +43,6 @@ impl Printer {
 
     // The document ends: all tokens pass, and a newline behind them if there was one.
     pub fn finish<S: Sink>(&mut self, sink: &mut S) -> Result<(), PrinterFault>
-        ensures rule { S.Sink.rule sink.new ≡ S.Sink.rule sink.old }
         ensures later { S.Sink.later sink.old sink.new }
         ensures older { self.new.older ≡ self.old.older }
         ensures finishes { (m : ℕ) (pen : LayoutPen) (h : List LayoutToken) (number : ℕ) (out : List ℕ) → Prints m pen h number out self.old → Finished m pen h number out (S.Sink.rule sink.old) (S.Sink.text sink.old) self.old.older (S.Sink.text sink.new) self.new.pen result }
@@ -54,18 +52,14 @@ impl Printer {
     }
 
     // Holds a token back, behind the others.
-    fn hold(&mut self, token: Token<'_>)
+    fn hold(&mut self, token: Token<&[u8]>)
         ensures older { self.new.older ≡ self.old.older }
         ensures holds { (m : ℕ) (pen : LayoutPen) (h : List LayoutToken) (number : ℕ) (out : List ℕ) → Prints m pen h number out self.old → length h < 384 → widths h ≤ 120 → Next (length pen.blocks) h (view token.entry) → Prints m pen (h ++ view token.entry ∷ []) number out self.new }
     {
         match token {
             Token::Text(bytes) => self.scan.push_text(bytes),
-            Token::Break { blanks, offset } => self.scan.push_break(blanks, offset),
-            Token::Opening {
-                offset,
-                fold,
-                anchor,
-            } => self.scan.push_opening(offset, fold, anchor),
+            Token::Break(gap) => self.scan.push_break(gap),
+            Token::Opening(opening) => self.scan.push_opening(opening),
             Token::Ending => self.scan.push_ending(),
         }
     }
@@ -84,7 +78,6 @@ impl Printer {
 
     // Writes the newline at the end, if there was a token.
     fn end_line<S: Sink>(&mut self, sink: &mut S) -> Result<(), PrinterFault>
-        ensures rule { S.Sink.rule sink.new ≡ S.Sink.rule sink.old }
         ensures later { S.Sink.later sink.old sink.new }
         ensures older { self.new.older ≡ self.old.older }
         ensures ends { (m : ℕ) (pen : LayoutPen) (h : List LayoutToken) (number : ℕ) (out : List ℕ) → Prints m pen h number out self.old → Ended m number out (S.Sink.rule sink.old) (S.Sink.text sink.old) self.old.older (S.Sink.text sink.new) self.new.pen result }

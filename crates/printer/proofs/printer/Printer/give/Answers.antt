@@ -11,8 +11,7 @@ returns-in_err-room g c =
     let s = c.args.sink.now in
     let p = err_from_is_err_and c.from_residual.result c.from_residual.ensures.1 in
     rw (p.1, p.2) (record {
-      rule = refl;
-      later = k.laws.stays s;
+      later = g.met.S.Sink.laws.stays s;
       older = refl;
       gives = λ m pen h number out pr narrow next. given_full m pen h number out (view c.args.token) (k.rule s) (k.text s) c.args.self.now.older (k.text s) c.args.self.now _ _ (c.in_err-room.ensures m pen h number out pr) (refl, refl);
     })
@@ -23,7 +22,6 @@ returns g c =
     let s = c.args.sink.now in
     let e = c.pass_all.ensures in
     record {
-      rule = e.rule;
       later = e.later;
       older = e.older ∙ c.hold.ensures.older;
       gives = λ m pen h number out pr narrow next.

@@ -1,22 +1,20 @@
-use Rattle.std.proofs.Common.{ℕ, ◌+◌, leb, ap, ◌∙◌, inl, inr, ⊎_elim}
-use Rattle.printer.proofs.Turns.{turn_none, turn_known, turn_waiting}
+use Rattle.std.proofs.Common.{not, ap, ◌∙◌, refl, inl, inr}
+use Rattle.printer.proofs.Turns.{turn_none, turn_passes, turn_waits}
 use Rattle.printer.proofs.printer.Printer.turn.Goals as goal
 
-pub returns-in_default : goal.returns-in_default
-returns-in_default c m pen h number out pr = turn_none _ m pen h (c.in_default.ensures _ _ h pr.scan)
+pub returns-in_err-slot : goal.returns-in_err-slot
+returns-in_err-slot c m pen h number out pr = rw c.from_residual.ensures (turn_none _ m pen h (c.in_err-slot.ensures _ _ h pr.scan))
 
-pub returns-in-Known : goal.returns-in-Known
-returns-in-Known c m pen h number out pr =
-    turn_known _ m pen h c.in-Some.slot c.in-Known.size _ (c.in-Some.ensures _ _ h pr.scan) c.in-Known.is (c.fits.ensures m pen out pr.stands)
+pub returns-then-fits : goal.returns-then-fits
+returns-then-fits c m pen h number out pr =
+    turn_waits _ m pen h c.in_ok-slot.slot _ c.width.result c.fits-fits.result (c.in_ok-slot.ensures _ _ h pr.scan) refl (c.width.ensures _ _ h pr.scan) (rw (← c.unwrap_or.ensures) (c.fits-fits.ensures m pen out pr.stands))
+    c.if-is_none.ensures c.if-not-over.true c.if-fits.true
 
-pub returns-then-not-fits : goal.returns-then-not-fits
-returns-then-not-fits c m pen h number out pr =
-    (turn_waiting _ m pen h c.in-Some.slot _ (c.in-Some.ensures _ _ h pr.scan) c.in-Waiting.is
-    (c.fits-fits.ensures m pen out pr.stands ∙ ap (λ (n : ℕ). leb (pen.column + n) m) (c.width.ensures _ _ h pr.scan))).0
-    (⊎_elim inl (λ p. inr p.1) c.if-not-fits.either)
-
-pub returns-else-not-fits : goal.returns-else-not-fits
-returns-else-not-fits c m pen h number out pr =
-    (turn_waiting _ m pen h c.in-Some.slot _ (c.in-Some.ensures _ _ h pr.scan) c.in-Waiting.is
-    (c.fits-fits.ensures m pen out pr.stands ∙ ap (λ (n : ℕ). leb (pen.column + n) m) (c.width.ensures _ _ h pr.scan))).1
-    c.if-not-fits.false.0 c.if-not-fits.false.1
+pub returns : goal.returns
+returns c m pen h number out pr =
+    turn_passes _ m pen h c.in_ok-slot.slot _ c.width.result c.fits-fits.result (c.in_ok-slot.ensures _ _ h pr.scan) refl (c.width.ensures _ _ h pr.scan) (rw (← c.unwrap_or.ensures) (c.fits-fits.ensures m pen out pr.stands))
+    (elim c.else-is_none.either [
+      | inl a ↦ inr (inr a.2)
+      | inr (inl a) ↦ inr (inl a.1)
+      | inr (inr a) ↦ inl (c.is_none.ensures ∙ ap not a)
+    ])

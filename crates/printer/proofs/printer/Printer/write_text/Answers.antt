@@ -10,25 +10,23 @@ returns-in_err-write_both g c =
     let b = c.in_err-write_both.ensures in
     let p = err_from_is_err_and c.from_residual.result c.from_residual.ensures.1 in
     rw (p.1, p.2) (record {
-      rule = b.rule;
       later = b.later;
       older = refl;
       writes = λ m pen bytes ts number out pr e.
           let runs = c.text.ensures _ _ _ pr.scan ∙ take_at bytes (texts ts) c.args.n (sym e) in
-          record { wrote = wrote_as _ _ _ _ _ _ _ runs b.writes; goes = tt };
+          record { wrote = wrote_as _ _ _ _ _ _ _ runs (record { stands = b.text; cases = b.cases }); goes = tt };
     })
 
 pub returns : goal.returns
 returns g c =
     let b = c.in_ok-write_both.ensures in
     record {
-      rule = b.rule;
       later = b.later;
       older = refl;
       writes = λ m pen bytes ts number out pr e.
           let runs = c.text.ensures _ _ _ pr.scan ∙ take_at bytes (texts ts) c.args.n (sym e) in
           record {
-            wrote = wrote_as _ _ _ _ _ _ _ runs b.writes;
+            wrote = wrote_as _ _ _ _ _ _ _ runs (record { stands = b.text; cases = b.cases });
             goes = record { stands = c.wrote.ensures m pen out bytes pr.stands (sym e) pr.plain.0; scan = refl; passed = refl; older = refl };
           };
     }
