@@ -10,9 +10,8 @@ use Rattle.sink.specs.Rule.{Beginnings, kept}
 use Rattle.sink.proofs.Kept.{kept_front, kept_longest}
 use Rattle.direct.specs.declared.fault.DirectFault.{DirectFault}
 use Rattle.direct.specs.declared.fault.DirectFault.TheVariants.{Tokens, Range, Receipt, Blocks, Unended, Printing}
-use Rattle.direct.specs.declared.outcome.Outcome.{Outcome}
 use Rattle.direct.specs.Calls.{Call, call_token, opened, refusal}
-use Rattle.direct.specs.Course.{Start, Course, going, broken, standing, taken_or, course_from, course, outcome, left}
+use Rattle.direct.specs.Course.{Start, Course, going, broken, standing, taken_or, course_from, course, Outcome, outcome, left}
 use Rattle.direct.specs.Laws.{with_token, goes_on, handed_from, handed, IsSinks, IsCut, CutLongest}
 use Rattle.direct.proofs.Wholes.{stays_broken, step_went}
 

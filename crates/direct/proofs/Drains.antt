@@ -17,12 +17,17 @@ use Rattle.printer.specs.Giving.{end_piece, last_pieces, Finished}
 use Rattle.printer.proofs.Pieces.{printed_cut}
 use Rattle.direct.specs.declared.fault.DirectFault.{DirectFault}
 use Rattle.direct.specs.declared.fault.DirectFault.TheVariants.{Unended, Printing}
-use Rattle.direct.specs.declared.outcome.Outcome.{Outcome}
-use Rattle.direct.specs.declared.outcome.Outcome.TheVariants.{Whole, Fault}
 use Rattle.direct.specs.Calls.{Call, opened}
-use Rattle.direct.specs.Course.{Start, Course, going, broken, course, print_pieces}
+use Rattle.direct.specs.Course.{Start, Course, going, broken, course, print_pieces, Outcome}
 use Rattle.direct.specs.Standing.{Seen, Opened, Goes, By, Closed}
 use Rattle.direct.proofs.Passings.{pass_count}
+
+-- an outcome by a fault, and a whole one
+abbrev fails : DirectFault → Outcome
+fails f = Err f
+
+abbrev made : ℕ → ℕ → ℕ → Outcome
+made bytes lines wide = Ok (record { bytes = bytes; newlines = lines; widest = wide })
 
 end_as : (ts : List Token) (n : ℕ) → n ≡ length ts → end_piece n ≡ ended ts
 end_as [] n e = cond-true (eqb n 0) _ _ (eq-eqb n 0 e)
@@ -56,12 +61,12 @@ last_as s ts v text pen r o g f =
 pub drain_open : (s : Start) (ts : List Token) (v : Seen) (n : ℕ) → Goes s ts v → 0 < length (opened ts) → n ≡ length ts → Closed s (going ts) v.text (Err (Unended n))
 drain_open s ts v n g l e =
     let no = ne_eqb (length (opened ts)) 0 (omega arith) in (
-      ap (λ (k : ℕ). Fault (Unended k)) e ∙ sym (cond-false (eqb (length (opened ts)) 0) _ _ no),
+      ap (λ (k : ℕ). fails (Unended k)) e ∙ sym (cond-false (eqb (length (opened ts)) 0) _ _ no),
       g.text ∙ ap (λ (xs : List ℕ). s.older ++ xs) (sym (cond-false (eqb (length (opened ts)) 0) _ _ no)),
     )
 
 -- the print is whole
-pub drain_whole : (s : Start) (ts : List Token) (v : Seen) (text : List ℕ) (pen : Pen) (bytes : ℕ) → Opened s v → Goes s ts v → length (opened ts) ≡ 0 → Last s ts v text pen (Ok tt) → length text < 2 ^ 64 → bytes ≡ length text - length s.older → Closed s (going ts) text (Ok (Whole bytes pen.newlines pen.widest))
+pub drain_whole : (s : Start) (ts : List Token) (v : Seen) (text : List ℕ) (pen : Pen) (bytes : ℕ) → Opened s v → Goes s ts v → length (opened ts) ≡ 0 → Last s ts v text pen (Ok tt) → length text < 2 ^ 64 → bytes ≡ length text - length s.older → Closed s (going ts) text (Ok (record { bytes = bytes; newlines = pen.newlines; widest = pen.widest }))
 drain_whole s ts v text pen bytes o g z f small b =
     let m = s.margin in
     let fin = last_as s ts v text pen (Ok tt) o g f in
@@ -78,7 +83,7 @@ drain_whole s ts v text pen bytes o g z f small b =
     let nl : pen.newlines ≡ newlines (layout m ts) = at.newlines ∙ (ap (λ (xs : List ℕ). min (newlines xs) (2 ^ 64 - 1)) out ∙ omega arith) in
     let wd : pen.widest ≡ min (widest (layout m ts)) 65535 = at.widest ∙ ap (λ (xs : List ℕ). min (widest xs) 65535) out in
     let by : bytes ≡ length (layout m ts) = omega arith in (
-      ap (λ (k : ℕ). Whole k pen.newlines pen.widest) by ∙ (ap (λ (k : ℕ). Whole (length (layout m ts)) k pen.widest) nl ∙ (ap (λ (k : ℕ). Whole (length (layout m ts)) (newlines (layout m ts)) k) wd
+      ap (λ (k : ℕ). made k pen.newlines pen.widest) by ∙ (ap (λ (k : ℕ). made (length (layout m ts)) k pen.widest) nl ∙ (ap (λ (k : ℕ). made (length (layout m ts)) (newlines (layout m ts)) k) wd
           ∙ sym (cond-true (eqb (length (opened ts)) 0) _ _ yes ∙ cond-true (s.rule.admits (s.older ++ layout m ts)) _ _ fit))),
       stands ∙ sym (ap (λ (xs : List ℕ). s.older ++ xs) (cond-true (eqb (length (opened ts)) 0) _ _ yes ∙ kept_all s.rule.admits o.beginnings s.older (layout m ts) fit)),
     )
@@ -94,15 +99,15 @@ drain_cut s ts v text pen f o g z fits l =
     let pr : Printed s.rule s.older (length s.older) 0 (print_pieces m ts) text (Err f) = subst (λ (qs : List (List ℕ)). Printed s.rule s.older (length s.older) 0 qs text (Err f)) (sym (print_join m ts)) here in
     let over = kept_over s.rule.admits o.beginnings s.older (layout m ts) pr.0 in
     let yes = eq-eqb (length (opened ts)) 0 z in (
-      ap (λ (x : PrinterFault). Fault (Printing x)) pr.1 ∙ sym (cond-true (eqb (length (opened ts)) 0) _ _ yes ∙ cond-false (s.rule.admits (s.older ++ layout m ts)) _ _ over),
+      ap (λ (x : PrinterFault). fails (Printing x)) pr.1 ∙ sym (cond-true (eqb (length (opened ts)) 0) _ _ yes ∙ cond-false (s.rule.admits (s.older ++ layout m ts)) _ _ over),
       pr.2 ∙ ap (λ (xs : List ℕ). s.older ++ xs) (sym (cond-true (eqb (length (opened ts)) 0) _ _ yes)),
     )
 
 -- a broken job
 pub drain_broken : (s : Start) (at : Course) (v : Seen) (f : DirectFault) → By s at v → v.fault ≡ Some f → Closed s at v.text (Err f)
 drain_broken s (going ts) v f b e = let z : ◌≡◌ {A = ℕ} 0 1 = cc (e, b.0.unbroken) in absurd (omega arith)
-drain_broken s (broken g w) v f b e = let q : f ≡ g = cc (e, b.fault) in (ap Fault q, b.stands)
+drain_broken s (broken g w) v f b e = let q : f ≡ g = cc (e, b.fault) in (ap fails q, b.stands)
 
 -- the same on the course that the calls took
-pub closed_as : (s : Start) (calls : List Call) (ts : List Token) (text : List ℕ) (r : Result Outcome DirectFault) → course s calls ≡ going ts → Closed s (going ts) text r → Closed s (course s calls) text r
+pub closed_as : (s : Start) (calls : List Call) (ts : List Token) (text : List ℕ) (r : Outcome) → course s calls ≡ going ts → Closed s (going ts) text r → Closed s (course s calls) text r
 closed_as s calls ts text r e c = subst (λ (x : Course). Closed s x text r) (sym e) c

@@ -1,5 +1,5 @@
 -- A token is laid out behind the others.
-use Rattle.std.proofs.Common.{◌≡◌, ℕ, suc, ◌+◌, ◌<◌, ◌≤◌, true, false, cond, leb, List, [], ◌∷◌, ◌++◌, reverse, length, take, Some, Ok, Err, Result, sym, refl, ap, ◌∙◌, subst, append_assoc, arith}
+use Rattle.std.proofs.Common.{◌≡◌, ℕ, suc, ◌+◌, ◌<◌, ◌≤◌, true, false, cond, leb, List, [], ◌∷◌, ◌++◌, length, Some, Ok, Err, Result, sym, refl, ap, ◌∙◌, subst, append_assoc, arith}
 use Rattle.std.proofs.lemmas.List.{length-append, length_push}
 use Rattle.std.proofs.lemmas.Bool.{cond-true, cond-false, le-leb, lt-leb}
 use Rattle.layout.specs.Tokens.{Token, Text, Break, Opening, Ending, widths}
@@ -120,9 +120,6 @@ pub laid_err : (s : Start) (ts : List Token) (t : Token) (v w v' : Seen) (f : Di
 laid_err s ts t v w v' f l e q =
     let C : Course → Type 0 = λ x. Laid s x v v' × (◌≡◌ {A = Result (Unit {0}) DirectFault} (Err f) (after_laying x)) in
     subst C (sym l.1) (record { fault = q; stands = e ∙ l.2 }, refl)
-
-pub same_table : (xs ys : List ℕ) (i j : ℕ) → xs ≡ ys → i ≡ j → reverse (take i xs) ≡ reverse (take j ys)
-same_table xs ys i j p q = ap (λ (zs : List ℕ). reverse (take i zs)) p ∙ ap (λ (n : ℕ). reverse (take n ys)) q
 
 -- the rule admits the text that stands
 pub stood : (s : Start) (ts : List Token) (v : Seen) → Opened s v → Goes s ts v → v.rule.admits v.text ≡ true → s.rule.admits (s.older ++ written s.margin ts) ≡ true

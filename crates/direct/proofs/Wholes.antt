@@ -9,9 +9,8 @@ use Rattle.layout.proofs.Passes.{written_begins}
 use Rattle.sink.specs.Rule.{Beginnings}
 use Rattle.direct.specs.declared.fault.DirectFault.{DirectFault}
 use Rattle.direct.specs.declared.fault.DirectFault.TheVariants.{Tokens, Range, Receipt, Blocks, Unended, Printing}
-use Rattle.direct.specs.declared.outcome.Outcome.{Outcome}
 use Rattle.direct.specs.Calls.{Call, call_token, opened, refusal}
-use Rattle.direct.specs.Course.{Start, Course, going, broken, taken_or, course_from, course, outcome}
+use Rattle.direct.specs.Course.{Start, Course, going, broken, taken_or, course_from, course, Outcome, outcome}
 use Rattle.direct.specs.Laws.{with_token, given_from, breaks, broken_from, room_or, room_from, given, IsWhole, WholeExactly}
 
 -- a broken course stays broken

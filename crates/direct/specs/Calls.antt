@@ -1,5 +1,6 @@
 -- Direct calls, and which of them are refused before their token is laid out.
 use Rattle.std.specs.Prelude.{ℕ, suc, Bool, true, false, cond, not, ◌&&◌, List, [], ◌∷◌, length, ℤ, pos, negsuc, Some, None, Option, ◌==◌, nat_le}
+use Rattle.std.specs.List.{list_all}
 use Rattle.layout.specs.declared.token.Fold.{Fold}
 use Rattle.layout.specs.declared.token.Anchor.{Anchor}
 use Rattle.layout.specs.Tokens.{Token, Text, Break, Opening, Ending}
@@ -22,8 +23,7 @@ call_token (ending_call job number) = Ending
 
 -- every byte is 0x20 or more
 abbrev pub printable : List ℕ → Bool
-printable [] = true
-printable (b ∷ bs) = nat_le 0x20 b && printable bs
+printable bytes = list_all (λ b. nat_le 0x20 b) bytes
 
 -- an offset is -16 to 16
 abbrev pub near : ℤ → Bool

@@ -9,8 +9,7 @@ use Rattle.printer.specs.declared.fault.PrinterFault.TheVariants.{Full}
 use Rattle.printer.specs.Printing.{cut_fault}
 use Rattle.direct.specs.declared.fault.DirectFault.{DirectFault}
 use Rattle.direct.specs.declared.fault.DirectFault.TheVariants.{Tokens, Range, Receipt, Blocks, Unended, Printing}
-use Rattle.direct.specs.declared.outcome.Outcome.{Outcome}
-use Rattle.direct.specs.declared.outcome.Outcome.TheVariants.{Whole, Fault}
+use Rattle.direct.specs.declared.outcome.Whole.{Whole}
 use Rattle.direct.specs.Calls.{Call, call_token, opened, refusal}
 
 -- where a job opens: its number, its margin, its sink's rule and the older text in its sink
@@ -87,16 +86,20 @@ course s cs = course_from s (going []) cs
 abbrev pub print_pieces : ℕ → List Token → List (List ℕ)
 print_pieces m ts = pieces m start ts ++ ended ts
 
+-- what a job comes to: a whole print, or a fault
+abbrev pub Outcome : Type 0
+Outcome = Result Whole DirectFault
+
 -- a whole print: its bytes, its newlines and its widest line, at most 65,535
 abbrev pub whole : List ℕ → Outcome
-whole print = Whole (length print) (newlines print) (min (widest print) 65535)
+whole print = Ok (record { bytes = length print; newlines = newlines print; widest = min (widest print) 65535 })
 
 -- the drain of a job that goes on: refused by 6 where a block is open; else the end is written, or the sink cuts the print
 abbrev pub ends : Start → List Token → Outcome
 ends s ts =
     cond (length (opened ts) == 0)
-    (cond (s.rule.admits (s.older ++ layout s.margin ts)) (whole (layout s.margin ts)) (Fault (cut_of s (print_pieces s.margin ts))))
-    (Fault (Unended (length ts)))
+    (cond (s.rule.admits (s.older ++ layout s.margin ts)) (whole (layout s.margin ts)) (Err (cut_of s (print_pieces s.margin ts))))
+    (Err (Unended (length ts)))
 
 -- and the text that stands then
 abbrev pub leaves : Start → List Token → List ℕ
@@ -104,7 +107,7 @@ leaves s ts = cond (length (opened ts) == 0) (kept_of s (print_pieces s.margin t
 
 abbrev pub outcome : Start → Course → Outcome
 outcome s (going ts) = ends s ts
-outcome s (broken f text) = Fault f
+outcome s (broken f text) = Err f
 
 abbrev pub left : Start → Course → List ℕ
 left s (going ts) = leaves s ts

@@ -1,5 +1,5 @@
 -- When a direct job is whole, and what stands where its sink refused, in the words of its calls.
-use Rattle.std.specs.Prelude.{◌≡◌, ℕ, Bool, true, false, cond, ◌&&◌, ◌||◌, List, [], ◌∷◌, ◌++◌, length, Some, None, Option, nat_lt}
+use Rattle.std.specs.Prelude.{◌≡◌, ℕ, Bool, true, false, cond, ◌&&◌, ◌||◌, List, [], ◌∷◌, ◌++◌, length, Some, None, Ok, Err, Option, nat_lt}
 use Rattle.layout.specs.Tokens.{Token}
 use Rattle.layout.specs.Layout.{layout}
 use Rattle.layout.specs.Passing.{most_held, held_back}
@@ -8,10 +8,8 @@ use Rattle.sink.specs.Longest.{Longest}
 use Rattle.printer.specs.declared.fault.PrinterFault.TheVariants.{Full, Sink}
 use Rattle.direct.specs.declared.fault.DirectFault.{DirectFault}
 use Rattle.direct.specs.declared.fault.DirectFault.TheVariants.{Tokens, Range, Receipt, Blocks, Unended, Printing}
-use Rattle.direct.specs.declared.outcome.Outcome.{Outcome}
-use Rattle.direct.specs.declared.outcome.Outcome.TheVariants.{Whole, Fault}
 use Rattle.direct.specs.Calls.{Call, call_token, opened, refusal}
-use Rattle.direct.specs.Course.{Start, Course, going, broken, step, whole}
+use Rattle.direct.specs.Course.{Start, Course, going, broken, step, Outcome, whole}
 
 -- the tokens not refused by a direct call's refusal, behind the tokens ts of the job of that number
 abbrev pub with_token : List Token → Call → Option DirectFault → List Token
@@ -59,8 +57,8 @@ pub record WholeWhen (s : Start) (calls : List Call) : Type 0 where
 
 -- an outcome is whole
 abbrev pub IsWhole : Outcome → Type 0
-IsWhole (Whole bytes newlines widest) = Unit {0}
-IsWhole (Fault f) = ⊥
+IsWhole (Ok w) = Unit {0}
+IsWhole (Err f) = ⊥
 
 -- The outcome is whole exactly then, and it is then that of the layout of the tokens not refused.
 pub record WholeExactly (s : Start) (calls : List Call) (o : Outcome) : Type 0 where
@@ -91,8 +89,8 @@ IsSinks (Printing (Full n)) = ⊥
 IsSinks (Printing (Sink f n)) = Unit {0}
 
 abbrev pub IsCut : Outcome → Type 0
-IsCut (Whole bytes newlines widest) = ⊥
-IsCut (Fault f) = IsSinks f
+IsCut (Ok w) = ⊥
+IsCut (Err f) = IsSinks f
 
 -- Where the sink refused, it holds behind the older text what its rule keeps of the print, the layout of the tokens handed to the printer; and that is the longest beginning of the print that the rule admits there.
 pub record CutLongest (s : Start) (calls : List Call) (o : Outcome) (text : List ℕ) : Type 0 where

@@ -1,5 +1,5 @@
 -- Where a job stands after a list of calls.
-use Rattle.std.specs.Prelude.{◌≡◌, ℕ, ◌<◌, ◌≤◌, true, List, [], ◌∷◌, ◌++◌, reverse, length, take, Some, None, Ok, Err, Option, Result}
+use Rattle.std.specs.Prelude.{◌≡◌, ℕ, ◌<◌, ◌≤◌, true, List, [], ◌∷◌, ◌++◌, reverse, length, Some, None, Ok, Err, Option, Result}
 use Rattle.layout.specs.Tokens.{Token}
 use Rattle.layout.specs.Passing.{so_far, written, held_back}
 use Rattle.sink.specs.Rule.{Rule, Beginnings}
@@ -7,11 +7,9 @@ use Rattle.printer.specs.declared.printer.Printer.{Printer}
 use Rattle.printer.specs.Printing.{Prints}
 use Rattle.direct.specs.declared.fault.DirectFault.{DirectFault}
 use Rattle.direct.specs.declared.receipt.Receipt.{Receipt}
-use Rattle.direct.specs.declared.outcome.Outcome.{Outcome}
-use Rattle.direct.specs.declared.outcome.Outcome.TheVariants.{Fault}
 use Rattle.direct.specs.declared.job.DirectJob.{DirectJob}
 use Rattle.direct.specs.Calls.{Call, text_call, break_call, opening_call, ending_call, opened, refusal}
-use Rattle.direct.specs.Course.{Start, Course, going, broken, course, laid, answer, outcome, left}
+use Rattle.direct.specs.Course.{Start, Course, going, broken, course, laid, answer, Outcome, outcome, left}
 
 -- a job as plain values: its sink's text and rule, its printer, its number, its count of tokens, the numbers of its open blocks, and its fault
 pub record Seen : Type 0 where
@@ -25,7 +23,7 @@ pub record Seen : Type 0 where
 
 abbrev pub seen : {S : Type 0} → (S → List ℕ) → (S → Rule) → DirectJob S → Seen
 seen text rule j =
-    record { text = text j.sink; rule = rule j.sink; printer = j.printer; job = j.number; given = j.given; blocks = reverse (take j.depth j.blocks); fault = j.fault }
+    record { text = text j.sink; rule = rule j.sink; printer = j.printer; job = j.number; given = j.given; blocks = reverse j.blocks.items; fault = j.fault }
 
 -- what no call changes
 pub record Opened (s : Start) (v : Seen) : Type 0 where
@@ -111,6 +109,5 @@ Received s at answered (Ok r) = (answered ≡ Ok tt) × (r.job ≡ s.job) × (r.
 Received s at answered (Err f) = answered ≡ Err f
 
 -- a drain: what the job came to, and the text that stands then
-abbrev pub Closed : Start → Course → List ℕ → Result Outcome DirectFault → Type 0
-Closed s at text (Ok o) = (o ≡ outcome s at) × (text ≡ s.older ++ left s at)
-Closed s at text (Err f) = (Fault f ≡ outcome s at) × (text ≡ s.older ++ left s at)
+abbrev pub Closed : Start → Course → List ℕ → Outcome → Type 0
+Closed s at text o = (o ≡ outcome s at) × (text ≡ s.older ++ left s at)

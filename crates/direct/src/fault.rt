@@ -4,6 +4,8 @@ ghost use Rattle.direct.specs.declared.fault.DirectFault.TheVariants.{Printing};
 ghost use Rattle.direct.specs.Faults.{number_of, layer_of, token_of};
 
 use printer::fault::PrinterFault;
+use std::error::Error;
+use std::fmt;
 
 #[derive(Clone, Copy, PartialEq, Eq, Debug)]
 pub enum DirectFault {
@@ -49,12 +51,8 @@ impl DirectFault {
         ensures { result ≡ layer_of self.now }
     {
         match self {
-            DirectFault::Tokens { token: _ } => 2,
-            DirectFault::Range { token: _ } => 2,
-            DirectFault::Receipt { token: _ } => 2,
-            DirectFault::Blocks { token: _ } => 2,
-            DirectFault::Unended { token: _ } => 2,
             DirectFault::Printing(fault) => fault.layer(),
+            _ => 2,
         }
     }
 
@@ -63,12 +61,22 @@ impl DirectFault {
         ensures { result ≡ token_of self.now }
     {
         match self {
-            DirectFault::Tokens { token } => *token,
-            DirectFault::Range { token } => *token,
-            DirectFault::Receipt { token } => *token,
-            DirectFault::Blocks { token } => *token,
-            DirectFault::Unended { token } => *token,
+            DirectFault::Tokens { token }
+            | DirectFault::Range { token }
+            | DirectFault::Receipt { token }
+            | DirectFault::Blocks { token }
+            | DirectFault::Unended { token } => *token,
             DirectFault::Printing(fault) => fault.token(),
         }
     }
 }
+
+impl fmt::Display for DirectFault {
+    fn fmt<W: fmt::Write>(&self, f: &mut fmt::Formatter<W>) -> fmt::Result {
+        let number = self.number();
+        let token = self.token();
+        write!(f, "{number} at token {token}")
+    }
+}
+
+impl Error for DirectFault {}

@@ -1,9 +1,10 @@
 // A direct job that is open, and one that is drained. Neither can be let go: an open job is drained,
 // and a drained one hands its sink back.
-ghost use Rattle.std.specs.Prelude.{◌≡◌, ◌≤◌, length};
+ghost use Rattle.std.specs.Prelude.{◌≤◌};
 
 use crate::fault::DirectFault;
 use crate::outcome::Outcome;
+use arrayvec::ArrayVec;
 use printer::printer::Printer;
 
 pub mod asking;
@@ -25,11 +26,8 @@ pub struct DirectJob<S> {
     // tokens given
     given: u32,
     // the token numbers of the open blocks' Openings, the innermost last
-    blocks: [u32; BLOCKS],
-    depth: usize,
+    blocks: ArrayVec<u32, BLOCKS>,
     fault: Option<DirectFault>,
-    ghost full: { length blocks ≡ 64 },
-    ghost deep: { depth ≤ 64 },
     ghost few: { given ≤ 1000000 },
 }
 

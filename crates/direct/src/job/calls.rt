@@ -1,18 +1,18 @@
 // The calls of an open job. Each says what it answers and where the job stands then, for every list of
 // calls before it.
 ghost use Rattle.std.specs.Prelude.{◌≡◌, ℕ, ◌<◌, ◌≤◌, true, false, List, [], ◌∷◌, ◌++◌};
-ghost use Rattle.layout.specs.Tokens.{Token as LayoutToken, Break, Opening, Ending};
 ghost use Rattle.layout.specs.View.{view};
 ghost use Rattle.direct.specs.Calls.{Call, call_token, in_range, meets, text_call, break_call, opening_call, ending_call};
 ghost use Rattle.direct.specs.Course.{Start, course, answer};
 ghost use Rattle.direct.specs.Standing.{seen, Stands, Called, Ready, PlainCall, Received};
 
 use crate::fault::DirectFault;
-use crate::job::ranges::{is_break, is_near, is_text};
-use crate::job::{BLOCKS, DirectJob, TOKENS};
+use crate::job::ranges::{is_break, is_opening, is_text};
+use crate::job::{DirectJob, TOKENS};
 use crate::receipt::Receipt;
+use arrayvec::ArrayVec;
 use layout::margin::Margin;
-use layout::token::{Anchor, Fold, Token};
+use layout::token::{Break, Opening, Token};
 use printer::printer::Printer;
 use sink::sink::Sink;
 
@@ -28,8 +28,7 @@ impl<S: Sink> DirectJob<S> {
             printer: Printer::new(margin, older),
             number,
             given: 0,
-            blocks: [0; BLOCKS],
-            depth: 0,
+            blocks: ArrayVec::new(),
             fault: None,
         }
     }
@@ -43,41 +42,35 @@ impl<S: Sink> DirectJob<S> {
     }
 
     // Hands in a Break.
-    pub fn break_at(&mut self, blanks: u8, offset: i8) -> Result<(), DirectFault>
+    pub fn break_at(&mut self, gap: Break) -> Result<(), DirectFault>
         ensures later { S.Sink.later self.old.sink self.new.sink }
-        ensures stands { (s : Start) (calls : List Call) → Stands s calls (seen S.Sink.text S.Sink.rule self.old) → Called s calls (break_call blanks offset) (seen S.Sink.text S.Sink.rule self.new) result (self.new.sink ≡ self.old.sink) }
+        ensures stands { (s : Start) (calls : List Call) → Stands s calls (seen S.Sink.text S.Sink.rule self.old) → Called s calls (break_call gap.blanks gap.offset) (seen S.Sink.text S.Sink.rule self.new) result (self.new.sink ≡ self.old.sink) }
     {
-        self.put(a_break(blanks, offset), is_break(blanks, offset))
+        self.put(Token::Break(gap), is_break(gap))
     }
 
     // Hands in an Opening, and gives the receipt of its block.
-    pub fn open_block(
-        &mut self,
-        offset: i8,
-        fold: Fold,
-        anchor: Anchor,
-    ) -> Result<Receipt, DirectFault>
+    pub fn open_block(&mut self, opening: Opening) -> Result<Receipt, DirectFault>
         ensures later { S.Sink.later self.old.sink self.new.sink }
-        ensures stands { (s : Start) (calls : List Call) → Stands s calls (seen S.Sink.text S.Sink.rule self.old) → Called s calls (opening_call offset fold anchor) (seen S.Sink.text S.Sink.rule self.new) (answer s (course s calls) (opening_call offset fold anchor)) (self.new.sink ≡ self.old.sink) × Received s (course s calls) (answer s (course s calls) (opening_call offset fold anchor)) result }
+        ensures stands { (s : Start) (calls : List Call) → Stands s calls (seen S.Sink.text S.Sink.rule self.old) → Called s calls (opening_call opening.offset opening.fold opening.anchor) (seen S.Sink.text S.Sink.rule self.new) (answer s (course s calls) (opening_call opening.offset opening.fold opening.anchor)) (self.new.sink ≡ self.old.sink) × Received s (course s calls) (answer s (course s calls) (opening_call opening.offset opening.fold opening.anchor)) result }
     {
         self.ready()?;
-        if !is_near(offset) {
+        let token = self.given;
+        if !is_opening(opening) {
             return Err(DirectFault::Range {
-                token: self.given as u64,
+                token: u64::from(token),
             });
         }
-        if self.depth >= BLOCKS {
+        if self.blocks.is_full() {
             return Err(DirectFault::Blocks {
-                token: self.given as u64,
+                token: u64::from(token),
             });
         }
-        let number = self.given;
-        self.take(an_opening(offset, fold, anchor))?;
-        self.blocks[self.depth] = number;
-        self.depth += 1;
+        self.take(Token::Opening(opening))?;
+        self.blocks.push(token);
         Ok(Receipt {
             job: self.number,
-            token: number,
+            token,
         })
     }
 
@@ -89,26 +82,24 @@ impl<S: Sink> DirectJob<S> {
         let Receipt { job, token } = receipt;
         self.ready()?;
         if !self.meets(job, token) {
-            let fault = DirectFault::Receipt {
-                token: self.given as u64,
-            };
-            self.fault = Some(fault);
-            return Err(fault);
+            return self.breaks(DirectFault::Receipt {
+                token: u64::from(self.given),
+            });
         }
-        self.take(an_ending())?;
-        self.depth = self.depth.saturating_sub(1);
+        self.take(Token::Ending)?;
+        self.blocks.pop();
         Ok(())
     }
 
     // Hands in a Text or a Break, given whether it is in range.
-    fn put(&mut self, token: Token<'_>, fits: bool) -> Result<(), DirectFault>
+    fn put(&mut self, token: Token<&[u8]>, fits: bool) -> Result<(), DirectFault>
         ensures later { S.Sink.later self.old.sink self.new.sink }
         ensures stands { (s : Start) (calls : List Call) (c : Call) → Stands s calls (seen S.Sink.text S.Sink.rule self.old) → call_token c ≡ view token.entry → in_range c ≡ fits → PlainCall c → Called s calls c (seen S.Sink.text S.Sink.rule self.new) result (self.new.sink ≡ self.old.sink) }
     {
         self.ready()?;
         if !fits {
             return Err(DirectFault::Range {
-                token: self.given as u64,
+                token: u64::from(self.given),
             });
         }
         self.take(token)
@@ -123,11 +114,9 @@ impl<S: Sink> DirectJob<S> {
             return Err(fault);
         }
         if self.given >= TOKENS {
-            let fault = DirectFault::Tokens {
-                token: self.given as u64,
-            };
-            self.fault = Some(fault);
-            return Err(fault);
+            return self.breaks(DirectFault::Tokens {
+                token: u64::from(self.given),
+            });
         }
         Ok(())
     }
@@ -136,35 +125,6 @@ impl<S: Sink> DirectJob<S> {
     fn meets(&self, job: u32, token: u32) -> bool
         ensures { result ≡ meets (seen S.Sink.text S.Sink.rule self.now).blocks self.now.number job token }
     {
-        if self.depth == 0 {
-            return false;
-        }
-        if job != self.number {
-            return false;
-        }
-        token == self.blocks[self.depth - 1]
+        job == self.number && self.blocks.last() == Some(&token)
     }
-}
-
-// The tokens without bytes.
-fn a_break(blanks: u8, offset: i8) -> Token<'static>
-    ensures { view result ≡ Break blanks offset }
-{
-    Token::Break { blanks, offset }
-}
-
-fn an_opening(offset: i8, fold: Fold, anchor: Anchor) -> Token<'static>
-    ensures { view result ≡ Opening offset fold anchor }
-{
-    Token::Opening {
-        offset,
-        fold,
-        anchor,
-    }
-}
-
-fn an_ending() -> Token<'static>
-    ensures { view result ≡ Ending }
-{
-    Token::Ending
 }

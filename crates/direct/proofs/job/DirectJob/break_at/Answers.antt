@@ -1,15 +1,6 @@
-use Rattle.std.proofs.Common.{ℤ, sym, ap, ◌∙◌, w8}
-use Rattle.std.proofs.lemmas.Int.{to_z-of_z}
-use Rattle.layout.specs.Tokens.{Break}
-use Rattle.direct.specs.Calls.{break_call, in_range}
+use Rattle.std.proofs.Common.{sym, refl}
+use Rattle.direct.specs.Calls.{break_call}
 use Rattle.direct.proofs.job.DirectJob.break_at.Goals as goal
 
-pub returns : goal.returns
-returns g c =
-    let z = to_z-of_z w8 c.args.offset c.ranges.offset in
-    record {
-      later = c.put.ensures.later;
-      stands = λ s calls st. c.put.ensures.stands s calls (break_call c.args.blanks c.args.offset) st
-          (ap (λ (o : ℤ). Break c.args.blanks o) (sym z) ∙ sym c.a_break.ensures)
-          (ap (λ (o : ℤ). in_range (break_call c.args.blanks o)) (sym z) ∙ sym c.is_break.ensures) tt;
-    }
+pub returns-clause-stands : goal.returns-clause-stands
+returns-clause-stands g c s calls st = c.put.ensures.stands s calls (break_call c.args.gap.blanks c.args.gap.offset) st refl (sym c.is_break.ensures) tt

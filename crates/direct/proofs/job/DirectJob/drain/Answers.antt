@@ -4,11 +4,10 @@ use Rattle.direct.proofs.job.DirectJob.drain.Goals as goal
 
 pub returns : goal.returns
 returns g c =
-    let e = c.close-outcome.ensures in
+    let e = c.finish-outcome.ensures in
     record {
-      rule = e.rule;
       later = e.later;
-      drains = λ s calls st. e.closes s calls st;
-      whole = λ s calls st. whole_exactly s calls _ st.opened.beginnings (e.closes s calls st).0;
-      cut = λ s calls st. cut_longest s calls _ _ st.opened.beginnings st.opened.held (e.closes s calls st).0 (e.closes s calls st).1;
+      drains = λ s calls st. e.finishes s calls st;
+      whole = λ s calls st. whole_exactly s calls _ st.opened.beginnings (e.finishes s calls st).0;
+      cut = λ s calls st. cut_longest s calls _ _ st.opened.beginnings st.opened.held (e.finishes s calls st).0 (e.finishes s calls st).1;
     }

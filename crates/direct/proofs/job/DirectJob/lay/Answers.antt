@@ -1,4 +1,4 @@
-use Rattle.std.proofs.Common.{◌≡◌, reverse, take, refl, ap, arith}
+use Rattle.std.proofs.Common.{◌≡◌, reverse, refl, ap, arith}
 use Rattle.std.proofs.lemmas.Result.{err_from_is_err_and}
 use Rattle.layout.specs.View.{view}
 use Rattle.direct.specs.Standing.{Seen, seen}
@@ -10,17 +10,16 @@ returns-in_err-give g c =
     let k = g.S.Sink in
     let v = seen k.text k.rule c.args.self.now in
     let j = c.args.self.now in
-    let w : Seen = record { text = k.text c.give.new.sink; rule = k.rule c.give.new.sink; printer = c.give.new.self; job = j.number; given = j.given; blocks = reverse (take j.depth j.blocks); fault = j.fault } in
+    let w : Seen = record { text = k.text c.give.new.sink; rule = k.rule c.give.new.sink; printer = c.give.new.self; job = j.number; given = j.given; blocks = reverse j.blocks.items; fault = j.fault } in
     let Same : Type 0 = (c.give.new.self ≡ j.printer) × (c.give.new.sink ≡ j.sink) in
     let e = c.in_err-give.ensures in
     let p = err_from_is_err_and c.from_residual.result c.from_residual.ensures.1 in
     rw (p.1, p.2) (record {
-      rule = e.rule;
       later = e.later;
-      frame = (refl, refl, refl, refl, e.older);
+      frame = (refl, refl, refl, e.older);
       lays = λ s ts o go f.
           let few = f.0 in
-          lay_err s ts (view c.args.token) v w Same c.in_err-give.field-0.0 o go (stood s ts v o go (k.laws.held c.args.self.now.sink))
+          lay_err s ts (view c.args.token) v w Same c.in_err-give.field-0.0 o go (stood s ts v o go (g.met.S.Sink.laws.held c.args.self.now.sink))
           (e.gives s.margin _ _ _ _ go.prints (narrow_fit s.margin ts o.most) (next_fit s.margin ts _ f.1))
           (λ same. ap k.text same.1) (omega arith);
     })
@@ -33,9 +32,8 @@ returns g c =
     let Same : Type 0 = (c.give.new.self ≡ j.printer) × (c.give.new.sink ≡ j.sink) in
     let e = c.in_ok-give.ensures in
     record {
-      rule = e.rule;
       later = e.later;
-      frame = (refl, refl, refl, refl, e.older);
+      frame = (refl, refl, refl, e.older);
       lays = λ s ts o go f.
           let few = f.0 in
           let n = go.given in

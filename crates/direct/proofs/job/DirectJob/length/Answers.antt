@@ -7,8 +7,7 @@ use Rattle.direct.proofs.job.DirectJob.length.Goals as goal
 
 pub returns : goal.returns
 returns g c s calls st =
-    let k = g.S.Sink in
-    let v = seen k.text k.rule c.args.self.now in
+    let v = seen g.S.Sink.text g.S.Sink.rule c.args.self.now in
     let e = ap length (standing_text s (course s calls) v st.by) ∙ length-append s.older (standing s (course s calls)) in
     let o = st.opened.older in
-    omega (arith, c.saturating_sub.ensures, c.len.ensures, c.older.ensures)
+    omega (arith, c.written.ensures.value)

@@ -1,4 +1,4 @@
-use Rattle.std.proofs.Common.{◌≡◌, [], ◌∷◌, ◌++◌, length, sym, ap, ◌∙◌, subst}
+use Rattle.std.proofs.Common.{◌≡◌, [], ◌∷◌, ◌++◌, length, ap, ◌∙◌, subst}
 use Rattle.layout.specs.Tokens.{Token}
 use Rattle.layout.specs.View.{view}
 use Rattle.direct.specs.declared.fault.DirectFault.TheVariants.{Range}
@@ -8,34 +8,23 @@ use Rattle.direct.specs.Standing.{seen}
 use Rattle.direct.proofs.Steps.{refused_range, refused_none, next_refused, next_laid, by_plain, plain_opened, plain_fit, plain_met}
 use Rattle.direct.proofs.job.DirectJob.put.Goals as goal
 
-pub returns-then-not-fits : goal.returns-then-not-fits
-returns-then-not-fits g c =
-    let k = g.S.Sink in
-    let v = seen k.text k.rule c.ready.new.self in
+pub returns-then-not-fits-clause-stands : goal.returns-then-not-fits-clause-stands
+returns-then-not-fits-clause-stands g c s calls d st is ran pl =
+    let v = seen g.S.Sink.text g.S.Sink.rule c.ready.new.self in
     let e = c.in_ok-ready.ensures in
-    record {
-      later = subst (λ x. k.later c.args.self.now.sink x) (sym e.sink) (k.laws.stays c.args.self.now.sink);
-      stands = λ s calls d st is ran pl.
-          let rd = e.stands s calls st in
-          let ts = rd.0 in
-          next_refused s calls d v ts (Range (length ts)) _ _ rd.1 rd.3 (refused_range s.job ts d rd.2 (ran ∙ c.if-not-fits.true)) (rd.4, rd.5) (ap Range rd.4.given) e.sink;
-    }
+    let rd = e.stands s calls st in
+    let ts = rd.0 in
+    rw c.from.ensures (next_refused s calls d v ts (Range (length ts)) _ _ rd.1 rd.3 (refused_range s.job ts d rd.2 (ran ∙ c.if-not-fits.true)) (rd.4, rd.5) (ap Range rd.4.given) e.sink)
 
-pub returns : goal.returns
-returns g c =
-    let k = g.S.Sink in
-    let v = seen k.text k.rule c.ready.new.self in
-    let e = c.in_ok-ready.ensures in
+pub returns-clause-stands : goal.returns-clause-stands
+returns-clause-stands g c s calls d st is ran pl =
+    let v = seen g.S.Sink.text g.S.Sink.rule c.ready.new.self in
     let t = c.take.ensures in
-    record {
-      later = subst (λ x. k.later x c.take.new.self.sink) e.sink t.later;
-      stands = λ s calls d st is ran pl.
-          let rd = e.stands s calls st in
-          let ts = rd.0 in
-          let inr = ran ∙ c.if-not-fits.false in
-          let ok = plain_met s.job ts d pl in
-          let fit = subst (FitToken ts) is (plain_fit ts d pl inr) in
-          let l = t.lays s ts rd.3 rd.4 (rd.2, fit) in
-          next_laid s calls d _ ts (view c.args.token) c.take.result _ rd.1 (t.opened s rd.3) (refused_none s.job ts d rd.2 inr ok.0 ok.1) is
-          (by_plain s ts (view c.args.token) v _ l.0 rd.5 (subst (λ (x : Token). opened (ts ++ x ∷ []) ≡ opened ts) is (plain_opened ts d pl))) l.1;
-    }
+    let rd = c.in_ok-ready.ensures.stands s calls st in
+    let ts = rd.0 in
+    let inr = ran ∙ c.if-not-fits.false in
+    let ok = plain_met s.job ts d pl in
+    let fit = subst (FitToken ts) is (plain_fit ts d pl inr) in
+    let l = t.lays s ts rd.3 rd.4 (rd.2, fit) in
+    next_laid s calls d _ ts (view c.args.token) c.take.result _ rd.1 (t.opened s rd.3) (refused_none s.job ts d rd.2 inr ok.0 ok.1) is
+    (by_plain s ts (view c.args.token) v _ l.0 rd.5 (subst (λ (x : Token). opened (ts ++ x ∷ []) ≡ opened ts) is (plain_opened ts d pl))) l.1

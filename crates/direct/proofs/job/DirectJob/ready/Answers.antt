@@ -13,7 +13,7 @@ pub returns-then-self-ge-TOKENS : goal.returns-then-self-ge-TOKENS
 returns-then-self-ge-TOKENS g c =
     let k = g.S.Sink in
     let v = seen k.text k.rule c.args.self.now in
-    record { sink = refl; stands = λ s calls st. ready_tokens s calls v _ _ st c.in_default.is c.if-self-ge-TOKENS.true (opened_as s v _ st.opened refl refl refl) refl refl refl }
+    rw (c.breaks.ensures.answer, c.breaks.ensures.job, c.from.ensures) (record { sink = refl; stands = λ s calls st. ready_tokens s calls v _ _ st c.in_default.is c.if-self-ge-TOKENS.true (opened_as s v _ st.opened refl refl refl) refl refl refl })
 
 pub returns : goal.returns
 returns g c =
