@@ -2,10 +2,18 @@
 use direct::fault::DirectFault;
 use direct::job::DirectJob;
 use direct::receipt::Receipt;
-use layout::token::{Anchor, Fold};
+use layout::token::{Anchor, Break, Fold, Opening};
 use sink::sink::Sink;
 use std::io;
 
+// The block of a container.
+const CONTAINER: Opening = Opening {
+    offset: 2,
+    fold: Fold::All,
+    anchor: Anchor::Indent,
+};
+
+// It keeps the first error of telling and goes on: a receipt may not be let go, so no call may return early by `?`.
 pub(crate) struct Desk<'r, 'j, S> {
     rt: &'r HostRuntime,
     job: &'j mut DirectJob<S>,
@@ -42,14 +50,14 @@ impl<'r, 'j, S: Sink> Desk<'r, 'j, S> {
     // Hands in a Break.
     pub(crate) fn break_at(&mut self, blanks: u8, offset: i8) {
         self.note(print!(self.rt; "break {blanks} {offset} -> "));
-        let answer = self.job.break_at(blanks, offset);
+        let answer = self.job.break_at(Break { blanks, offset });
         self.tell_answer(answer);
     }
 
     // Hands in the Opening of a container, and keeps its receipt.
     pub(crate) fn open_block(&mut self) -> Option<Receipt> {
         self.note(print!(self.rt; "opening 2 all indent -> "));
-        match self.job.open_block(2, Fold::All, Anchor::Indent) {
+        match self.job.open_block(CONTAINER) {
             Ok(receipt) => {
                 self.tell_answer(Ok(()));
                 Some(receipt)
@@ -76,10 +84,7 @@ impl<'r, 'j, S: Sink> Desk<'r, 'j, S> {
         self.note(print!(self.rt; "length? {length}, fault? "));
         match self.job.fault() {
             None => self.note(println!(self.rt; "none")),
-            Some(fault) => {
-                let number = fault.number();
-                self.note(println!(self.rt; "{number}"));
-            }
+            Some(fault) => self.note(println!(self.rt; "{}", fault.number())),
         }
     }
 
@@ -89,11 +94,7 @@ impl<'r, 'j, S: Sink> Desk<'r, 'j, S> {
         match answer {
             Ok(()) => self.note(println!(self.rt; "ok, {length} standing")),
             Err(fault) => {
-                let number = fault.number();
-                let token = fault.token();
-                self.note(println!(self.rt;
-                    "refused by {number} at token {token}, {length} standing"
-                ));
+                self.note(println!(self.rt; "refused by {fault}, {length} standing"));
             }
         }
     }

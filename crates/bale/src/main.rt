@@ -6,11 +6,9 @@
 
 use crate::desk::Desk;
 use crate::load::bale;
-use anyhow::anyhow;
 use direct::job::DirectJob;
 use direct::outcome::Outcome;
 use layout::margin::Margin;
-use sink::kind::KindNumber;
 use sink::sink::Sink;
 use sink::window::Window;
 use std::io;
@@ -28,23 +26,13 @@ fn take_in<S: Sink>(rt: &HostRuntime, job: &mut DirectJob<S>) -> io::Result<()> 
 // Tells what the job came to.
 fn tell_outcome(rt: &HostRuntime, outcome: Outcome) -> io::Result<()> {
     match outcome {
-        Outcome::Whole {
-            bytes,
-            newlines,
-            widest,
-        } => { println!(rt; "whole: {bytes} bytes, {newlines} newlines, widest {widest}") }
-        Outcome::Fault(fault) => {
-            let number = fault.number();
-            let token = fault.token();
-            println!(rt; "fault {number} at token {token}")
-        }
+        Ok(whole) => println!(rt; "whole: {whole}"),
+        Err(fault) => println!(rt; "fault {fault}"),
     }
 }
 
 fn main(rt: HostRuntime) -> anyhow::Result<()> {
-    let Ok(margin) = Margin::new(40) else {
-        return Err(anyhow!("no such margin"));
-    };
+    let margin = Margin::try_from(40)?;
     println!(rt; "open job 7 at margin 40 on a window of 512 bytes")?;
     let mut buffer = [0u8; 512];
     let mut job = DirectJob::open(Window::new(&mut buffer), margin, 7);

@@ -1,9 +1,9 @@
 // What the trials share.
 use direct::fault::DirectFault;
 use direct::job::{DirectJob, Drained};
-use direct::outcome::Outcome;
+use direct::outcome::{Outcome, Whole};
 use direct::receipt::Receipt;
-use layout::token::{Anchor, Fold};
+use layout::token::{Anchor, Break, Fold, Opening};
 use printer::fault::PrinterFault;
 use sink::fault::SinkFault;
 use sink::sink::Sink;
@@ -15,12 +15,23 @@ mod ranges;
 mod receipts;
 mod sinks;
 
-// Opens a block with offset 0, fold all and anchor indent.
-pub(crate) fn opened<S: Sink>(job: &mut DirectJob<S>) -> Option<Receipt> {
-    match job.open_block(0, Fold::All, Anchor::Indent) {
-        Ok(receipt) => Some(receipt),
-        Err(_) => None,
+// A block with fold all and anchor indent.
+pub(crate) fn block(offset: i8) -> Opening {
+    Opening {
+        offset,
+        fold: Fold::All,
+        anchor: Anchor::Indent,
     }
+}
+
+// A Break.
+pub(crate) fn gap(blanks: u8, offset: i8) -> Break {
+    Break { blanks, offset }
+}
+
+// Opens a block with offset 0.
+pub(crate) fn opened<S: Sink>(job: &mut DirectJob<S>) -> Option<Receipt> {
+    job.open_block(block(0)).ok()
 }
 
 // Ends a block, if it was opened, and gives the answer.
@@ -28,18 +39,12 @@ pub(crate) fn ended<S: Sink>(
     job: &mut DirectJob<S>,
     block: Option<Receipt>,
 ) -> Option<Result<(), DirectFault>> {
-    match block {
-        Some(receipt) => Some(job.end_block(receipt)),
-        None => None,
-    }
+    block.map(|receipt| job.end_block(receipt))
 }
 
 // Hands a drained job the receipt of a block that was not ended, and gives what it repeats.
 pub(crate) fn settled<S>(job: &Drained<S>, block: Option<Receipt>) -> Option<Outcome> {
-    match block {
-        Some(receipt) => Some(job.settle(receipt)),
-        None => None,
-    }
+    block.map(|receipt| job.settle(receipt))
 }
 
 // Drains a job and lets its sink go: the outcome.
@@ -48,6 +53,15 @@ pub(crate) fn outcome_of<S: Sink + Drop>(job: DirectJob<S>) -> Outcome {
     let outcome = drained.outcome();
     let _ = drained.into_sink();
     outcome
+}
+
+// The outcome of a whole print.
+pub(crate) fn whole(bytes: usize, newlines: u64, widest: u16) -> Outcome {
+    Ok(Whole {
+        bytes,
+        newlines,
+        widest,
+    })
 }
 
 // The fault of a job whose sink, of that kind, was full when `text` bytes stood.

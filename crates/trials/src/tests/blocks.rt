@@ -1,10 +1,9 @@
 // As many open blocks, tokens held back and tokens of a job as there may be.
-use crate::tests::{ended, opened, outcome_of, settled};
+use crate::tests::{block, ended, gap, opened, outcome_of, settled};
 use direct::fault::DirectFault;
 use direct::job::{DirectJob, Drained};
-use direct::outcome::Outcome;
 use layout::margin::Margin;
-use layout::token::{Anchor, Fold};
+use layout::token::{Anchor, Fold, Opening};
 use printer::fault::PrinterFault;
 use sink::sink::Sink;
 use sink::slip::Slip;
@@ -18,7 +17,7 @@ fn open_many<S: Sink, D>(
     n: u8,
 ) -> Option<DirectFault> {
     for _ in 0..n {
-        match job.open_block(0, Fold::All, Anchor::Indent) {
+        match job.open_block(block(0)) {
             Ok(receipt) => {
                 let _ = drained.settle(receipt);
             }
@@ -30,7 +29,7 @@ fn open_many<S: Sink, D>(
 
 #[test]
 fn open_at_once(rt: HostRuntime) -> Result<(), Fail> {
-    let margin = Margin::new(16)?;
+    let margin = Margin::try_from(16)?;
     let drained = DirectJob::open(Slip::new(), margin, 1).drain();
     let mut job = DirectJob::open(Slip::new(), margin, 2);
     let most = open_many(&mut job, &drained, 64);
@@ -41,7 +40,7 @@ fn open_at_once(rt: HostRuntime) -> Result<(), Fail> {
     assert_eq!(rt; most, None);
     assert_eq!(rt; one_more, Some(DirectFault::Blocks { token: 64 }));
     assert_eq!(rt; text, Ok(()));
-    assert_eq!(rt; outcome, Outcome::Fault(DirectFault::Unended { token: 65 }));
+    assert_eq!(rt; outcome, Err(DirectFault::Unended { token: 65 }));
     Ok(())
 }
 
@@ -55,7 +54,7 @@ fn in_a_row<S: Sink>(job: &mut DirectJob<S>, n: u8) {
 
 #[test]
 fn held_back(rt: HostRuntime) -> Result<(), Fail> {
-    let margin = Margin::new(16)?;
+    let margin = Margin::try_from(16)?;
     let mut job = DirectJob::open(Slip::new(), margin, 1);
     in_a_row(&mut job, 191);
     let second_last = job.text(b"a");
@@ -68,14 +67,14 @@ fn held_back(rt: HostRuntime) -> Result<(), Fail> {
     assert_eq!(rt; last, Ok(()));
     assert_eq!(rt; one_more, Err(fault));
     assert_eq!(rt; standing, 0);
-    assert_eq!(rt; outcome, Outcome::Fault(fault));
+    assert_eq!(rt; outcome, Err(fault));
     Ok(())
 }
 
 // Breaks of no blanks, n of them.
 fn breaks<S: Sink>(job: &mut DirectJob<S>, n: u32) -> Result<(), DirectFault> {
     for _ in 0..n {
-        job.break_at(0, 0)?;
+        job.break_at(gap(0, 0))?;
     }
     Ok(())
 }
@@ -84,12 +83,15 @@ fn breaks<S: Sink>(job: &mut DirectJob<S>, n: u32) -> Result<(), DirectFault> {
 // stands, and writes nothing.
 #[test]
 fn tokens_of_a_job(rt: HostRuntime) -> Result<(), Fail> {
-    let margin = Margin::new(16)?;
+    let margin = Margin::try_from(16)?;
     let mut job = DirectJob::open(Slip::new(), margin, 1);
-    let block = match job.open_block(0, Fold::Each, Anchor::Indent) {
-        Ok(receipt) => Some(receipt),
-        Err(_) => None,
-    };
+    let block = job
+        .open_block(Opening {
+            offset: 0,
+            fold: Fold::Each,
+            anchor: Anchor::Indent,
+        })
+        .ok();
     let text = job.text(b"gross weight (kg)");
     let taken = breaks(&mut job, 999_998);
     let one_more = job.text(b"");
@@ -102,6 +104,6 @@ fn tokens_of_a_job(rt: HostRuntime) -> Result<(), Fail> {
     assert_eq!(rt; taken, Ok(()));
     assert_eq!(rt; one_more, Err(fault));
     assert_eq!(rt; standing, 18);
-    assert_eq!(rt; outcome, Some(Outcome::Fault(fault)));
+    assert_eq!(rt; outcome, Some(Err(fault)));
     Ok(())
 }

@@ -1,31 +1,17 @@
 // The margins next to the limits.
-use layout::fault::MarginFault;
 use layout::margin::Margin;
 
-// The columns of a margin, or the refusal.
-fn columns(asked: u32) -> Result<u8, MarginFault> {
-    match Margin::new(asked) {
-        Ok(margin) => Ok(margin.columns()),
-        Err(fault) => Err(fault),
-    }
+// The columns of a margin, or the number of the refusal and the columns asked for.
+fn columns(asked: u32) -> Result<u8, (u8, u32)> {
+    Margin::try_from(asked)
+        .map(|margin| margin.columns())
+        .map_err(|fault| (fault.number(), fault.columns))
 }
 
 #[test]
 fn margins(rt: HostRuntime) {
-    assert_eq!(rt;
-        columns(15),
-        Err(MarginFault {
-            number: 1,
-            columns: 15,
-        })
-    );
+    assert_eq!(rt; columns(15), Err((1, 15)));
     assert_eq!(rt; columns(16), Ok(16));
     assert_eq!(rt; columns(120), Ok(120));
-    assert_eq!(rt;
-        columns(121),
-        Err(MarginFault {
-            number: 1,
-            columns: 121,
-        })
-    );
+    assert_eq!(rt; columns(121), Err((1, 121)));
 }

@@ -1,10 +1,9 @@
 // Numbers and Texts next to their limits. What is out of range is refused by 8 and leaves no trace.
-use crate::tests::outcome_of;
+use crate::tests::{gap, outcome_of, whole};
 use direct::fault::DirectFault;
 use direct::job::DirectJob;
-use direct::outcome::Outcome;
 use layout::margin::Margin;
-use layout::token::{Anchor, Fold};
+use layout::token::{Anchor, Fold, Opening};
 use sink::sink::Sink;
 use sink::slip::Slip;
 use sink::window::Window;
@@ -28,79 +27,70 @@ fn try_texts<S: Sink>(rt: &impl Abort, job: &mut DirectJob<S>) -> Result<(), Fai
 
 #[test]
 fn texts(rt: HostRuntime) -> Result<(), Fail> {
-    let margin = Margin::new(16)?;
+    let margin = Margin::try_from(16)?;
     let mut buffer = [0u8; 300];
     let mut job = DirectJob::open(Window::new(&mut buffer), margin, 1);
     let tried = try_texts(&rt, &mut job);
     let outcome = outcome_of(job);
     tried?;
-    assert_eq!(rt;
-        outcome,
-        Outcome::Whole {
-            bytes: 260,
-            newlines: 1,
-            widest: 259,
-        }
-    );
+    assert_eq!(rt; outcome, whole(260, 1, 259));
     Ok(())
 }
 
 fn try_breaks<S: Sink>(rt: &impl Abort, job: &mut DirectJob<S>) -> Result<(), Fail> {
-    assert_eq!(rt; job.break_at(8, 0), Ok(()));
-    assert_eq!(rt; job.break_at(9, 0), out_of_range(1));
-    assert_eq!(rt; job.break_at(0, 16), Ok(()));
-    assert_eq!(rt; job.break_at(0, 17), out_of_range(2));
-    assert_eq!(rt; job.break_at(0, -16), Ok(()));
-    assert_eq!(rt; job.break_at(0, -17), out_of_range(3));
+    for (blanks, offset, answer) in [
+        (8, 0, Ok(())),
+        (9, 0, out_of_range(1)),
+        (0, 16, Ok(())),
+        (0, 17, out_of_range(2)),
+        (0, -16, Ok(())),
+        (0, -17, out_of_range(3)),
+    ] {
+        assert_eq!(rt; job.break_at(gap(blanks, offset)), answer);
+    }
     Ok(())
 }
 
 #[test]
 fn breaks(rt: HostRuntime) -> Result<(), Fail> {
-    let margin = Margin::new(16)?;
+    let margin = Margin::try_from(16)?;
     let mut job = DirectJob::open(Slip::new(), margin, 1);
     let tried = try_breaks(&rt, &mut job);
     let outcome = outcome_of(job);
     tried?;
-    assert_eq!(rt;
-        outcome,
-        Outcome::Whole {
-            bytes: 12,
-            newlines: 4,
-            widest: 8,
-        }
-    );
+    assert_eq!(rt; outcome, whole(12, 4, 8));
     Ok(())
 }
 
 // Opens a block with that offset and ends it: the Opening's answer.
 fn open_at<S: Sink>(job: &mut DirectJob<S>, offset: i8) -> Result<(), DirectFault> {
-    let receipt = job.open_block(offset, Fold::Each, Anchor::Column)?;
+    let receipt = job.open_block(Opening {
+        offset,
+        fold: Fold::Each,
+        anchor: Anchor::Column,
+    })?;
     job.end_block(receipt)
 }
 
 fn try_openings<S: Sink>(rt: &impl Abort, job: &mut DirectJob<S>) -> Result<(), Fail> {
-    assert_eq!(rt; open_at(job, 16), Ok(()));
-    assert_eq!(rt; open_at(job, 17), out_of_range(2));
-    assert_eq!(rt; open_at(job, -16), Ok(()));
-    assert_eq!(rt; open_at(job, -17), out_of_range(4));
+    for (offset, answer) in [
+        (16, Ok(())),
+        (17, out_of_range(2)),
+        (-16, Ok(())),
+        (-17, out_of_range(4)),
+    ] {
+        assert_eq!(rt; open_at(job, offset), answer);
+    }
     Ok(())
 }
 
 #[test]
 fn openings(rt: HostRuntime) -> Result<(), Fail> {
-    let margin = Margin::new(16)?;
+    let margin = Margin::try_from(16)?;
     let mut job = DirectJob::open(Slip::new(), margin, 1);
     let tried = try_openings(&rt, &mut job);
     let outcome = outcome_of(job);
     tried?;
-    assert_eq!(rt;
-        outcome,
-        Outcome::Whole {
-            bytes: 1,
-            newlines: 1,
-            widest: 0,
-        }
-    );
+    assert_eq!(rt; outcome, whole(1, 1, 0));
     Ok(())
 }

@@ -2,14 +2,13 @@
 use crate::tests::{ended, opened, outcome_of, settled};
 use direct::fault::DirectFault;
 use direct::job::DirectJob;
-use direct::outcome::Outcome;
 use layout::margin::Margin;
 use sink::slip::Slip;
 use std::test::Fail;
 
 #[test]
 fn of_another_job(rt: HostRuntime) -> Result<(), Fail> {
-    let margin = Margin::new(16)?;
+    let margin = Margin::try_from(16)?;
     let mut job = DirectJob::open(Slip::new(), margin, 7);
     let mut other = DirectJob::open(Slip::new(), margin, 8);
     let own = opened(&mut job);
@@ -25,15 +24,15 @@ fn of_another_job(rt: HostRuntime) -> Result<(), Fail> {
     assert_eq!(rt; refused, Some(Err(fault)));
     assert_eq!(rt; later, Err(fault));
     assert_eq!(rt; asked, Some(fault));
-    assert_eq!(rt; repeated, Some(Outcome::Fault(fault)));
+    assert_eq!(rt; repeated, Some(Err(fault)));
     assert_eq!(rt; slip.row(0), Some(b"".as_slice()));
-    assert_eq!(rt; outcome, Outcome::Fault(DirectFault::Unended { token: 1 }));
+    assert_eq!(rt; outcome, Err(DirectFault::Unended { token: 1 }));
     Ok(())
 }
 
 #[test]
 fn of_an_outer_block(rt: HostRuntime) -> Result<(), Fail> {
-    let margin = Margin::new(16)?;
+    let margin = Margin::try_from(16)?;
     let mut job = DirectJob::open(Slip::new(), margin, 7);
     let outer = opened(&mut job);
     let inner = opened(&mut job);
@@ -43,13 +42,13 @@ fn of_an_outer_block(rt: HostRuntime) -> Result<(), Fail> {
     let fault = DirectFault::Receipt { token: 2 };
     assert_eq!(rt; refused, Some(Err(fault)));
     assert_eq!(rt; repeated, Some(Err(fault)));
-    assert_eq!(rt; outcome, Outcome::Fault(fault));
+    assert_eq!(rt; outcome, Err(fault));
     Ok(())
 }
 
 #[test]
 fn not_ended(rt: HostRuntime) -> Result<(), Fail> {
-    let margin = Margin::new(16)?;
+    let margin = Margin::try_from(16)?;
     let mut job = DirectJob::open(Slip::new(), margin, 7);
     let block = opened(&mut job);
     let text = job.text(b"(");
@@ -57,10 +56,7 @@ fn not_ended(rt: HostRuntime) -> Result<(), Fail> {
     let repeated = settled(&drained, block);
     let slip = drained.into_sink();
     assert_eq!(rt; text, Ok(()));
-    assert_eq!(rt;
-        repeated,
-        Some(Outcome::Fault(DirectFault::Unended { token: 2 }))
-    );
+    assert_eq!(rt; repeated, Some(Err(DirectFault::Unended { token: 2 })));
     assert_eq!(rt; slip.row(0), Some(b"".as_slice()));
     Ok(())
 }

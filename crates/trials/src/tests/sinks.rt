@@ -1,10 +1,9 @@
 // Sinks that are full at the last byte or before, and a sink that two jobs print into.
-use crate::tests::{full, outcome_of};
+use crate::tests::{block, full, gap, outcome_of, whole};
 use direct::fault::DirectFault;
 use direct::job::DirectJob;
 use direct::outcome::Outcome;
 use layout::margin::Margin;
-use layout::token::{Anchor, Fold};
 use sink::sink::Sink;
 use sink::slip::Slip;
 use sink::window::Window;
@@ -13,7 +12,7 @@ use std::test::Fail;
 
 // The record {"tare":[12,7]}, up to the first refusal. An Ending takes each receipt, on a broken job too.
 fn tare<S: Sink>(job: &mut DirectJob<S>) -> Result<(), DirectFault> {
-    let receipt = job.open_block(2, Fold::All, Anchor::Indent)?;
+    let receipt = job.open_block(block(2))?;
     let inside = members(job);
     job.end_block(receipt)?;
     inside
@@ -21,25 +20,25 @@ fn tare<S: Sink>(job: &mut DirectJob<S>) -> Result<(), DirectFault> {
 
 fn members<S: Sink>(job: &mut DirectJob<S>) -> Result<(), DirectFault> {
     job.text(b"{")?;
-    job.break_at(0, 0)?;
+    job.break_at(gap(0, 0))?;
     job.text(b"\"tare\"")?;
     job.text(b": ")?;
-    let receipt = job.open_block(2, Fold::All, Anchor::Indent)?;
+    let receipt = job.open_block(block(2))?;
     let inside = items(job);
     job.end_block(receipt)?;
     inside?;
-    job.break_at(0, -2)?;
+    job.break_at(gap(0, -2))?;
     job.text(b"}")
 }
 
 fn items<S: Sink>(job: &mut DirectJob<S>) -> Result<(), DirectFault> {
     job.text(b"[")?;
-    job.break_at(0, 0)?;
+    job.break_at(gap(0, 0))?;
     job.text(b"12")?;
     job.text(b",")?;
-    job.break_at(1, 0)?;
+    job.break_at(gap(1, 0))?;
     job.text(b"7")?;
-    job.break_at(0, -2)?;
+    job.break_at(gap(0, -2))?;
     job.text(b"]")
 }
 
@@ -55,7 +54,7 @@ struct Course {
 fn window_over(rt: &impl Abort, buffer: &mut [u8]) -> Result<Course, Fail> {
     let print = *b"{\n  \"tare\": [\n    12,\n    7\n  ]\n}\n";
     let room = buffer.len().min(34);
-    let margin = Margin::new(16)?;
+    let margin = Margin::try_from(16)?;
     let mut job = DirectJob::open(Window::new(buffer), margin, 7);
     let taken = tare(&mut job);
     let standing = job.length();
@@ -73,11 +72,7 @@ fn window_over(rt: &impl Abort, buffer: &mut [u8]) -> Result<Course, Fail> {
 #[test]
 fn windows(rt: HostRuntime) -> Result<(), Fail> {
     let (taken, standing) = (Ok(()), 31);
-    let outcome = Outcome::Whole {
-        bytes: 34,
-        newlines: 6,
-        widest: 11,
-    };
+    let outcome = whole(34, 6, 11);
     assert_eq!(rt;
         window_over(&rt, &mut [0; 34])?,
         Course {
@@ -86,7 +81,7 @@ fn windows(rt: HostRuntime) -> Result<(), Fail> {
             outcome,
         }
     );
-    let outcome = Outcome::Fault(full(1, 33, 18));
+    let outcome = Err(full(1, 33, 18));
     assert_eq!(rt;
         window_over(&rt, &mut [0; 33])?,
         Course {
@@ -96,7 +91,7 @@ fn windows(rt: HostRuntime) -> Result<(), Fail> {
         }
     );
     let cut = full(1, 30, 13);
-    let (taken, standing, outcome) = (Err(cut), 30, Outcome::Fault(cut));
+    let (taken, standing, outcome) = (Err(cut), 30, Err(cut));
     assert_eq!(rt;
         window_over(&rt, &mut [0; 30])?,
         Course {
@@ -112,7 +107,7 @@ fn windows(rt: HostRuntime) -> Result<(), Fail> {
 fn lines<S: Sink>(job: &mut DirectJob<S>, n: u8) -> Result<(), DirectFault> {
     job.text(b"a")?;
     for _ in 1..n {
-        job.break_at(0, 0)?;
+        job.break_at(gap(0, 0))?;
         job.text(b"a")?;
     }
     Ok(())
@@ -120,7 +115,7 @@ fn lines<S: Sink>(job: &mut DirectJob<S>, n: u8) -> Result<(), DirectFault> {
 
 // The outcome of n lines on a slip.
 fn slip_of(rt: &impl Abort, n: u8) -> Result<Outcome, Fail> {
-    let margin = Margin::new(16)?;
+    let margin = Margin::try_from(16)?;
     let mut job = DirectJob::open(Slip::new(), margin, 1);
     let taken = lines(&mut job, n);
     let outcome = outcome_of(job);
@@ -130,28 +125,21 @@ fn slip_of(rt: &impl Abort, n: u8) -> Result<Outcome, Fail> {
 
 #[test]
 fn slips(rt: HostRuntime) -> Result<(), Fail> {
-    assert_eq!(rt;
-        slip_of(&rt, 15)?,
-        Outcome::Whole {
-            bytes: 30,
-            newlines: 15,
-            widest: 1,
-        }
-    );
-    assert_eq!(rt; slip_of(&rt, 16)?, Outcome::Fault(full(2, 31, 31)));
+    assert_eq!(rt; slip_of(&rt, 15)?, whole(30, 15, 1));
+    assert_eq!(rt; slip_of(&rt, 16)?, Err(full(2, 31, 31)));
     Ok(())
 }
 
 #[test]
 fn row_of_a_slip(rt: HostRuntime) -> Result<(), Fail> {
-    let margin = Margin::new(120)?;
+    let margin = Margin::try_from(120)?;
     let mut job = DirectJob::open(Slip::new(), margin, 1);
     let taken = job.text(&[b'a'; 41]);
     let drained = job.drain();
     let outcome = drained.outcome();
     let slip = drained.into_sink();
     assert_eq!(rt; taken, Err(full(2, 40, 0)));
-    assert_eq!(rt; outcome, Outcome::Fault(full(2, 40, 0)));
+    assert_eq!(rt; outcome, Err(full(2, 40, 0)));
     assert_eq!(rt; slip.row(0), Some([b'a'; 40].as_slice()));
     Ok(())
 }
@@ -163,7 +151,7 @@ fn row_is(slip: &Slip, number: usize, bytes: &[u8]) -> bool {
 
 #[test]
 fn one_behind_the_other(rt: HostRuntime) -> Result<(), Fail> {
-    let margin = Margin::new(16)?;
+    let margin = Margin::try_from(16)?;
     let mut first = DirectJob::open(Slip::new(), margin, 1);
     let paper = first.text(b"paper");
     let drained = first.drain();
@@ -176,14 +164,7 @@ fn one_behind_the_other(rt: HostRuntime) -> Result<(), Fail> {
     assert_eq!(rt; paper, Ok(()));
     assert_eq!(rt; glass, Ok(()));
     assert_eq!(rt; length, 5);
-    assert_eq!(rt;
-        outcome,
-        Outcome::Whole {
-            bytes: 6,
-            newlines: 1,
-            widest: 5,
-        }
-    );
+    assert_eq!(rt; outcome, whole(6, 1, 5));
     assert!(rt; row_is(&slip, 0, b"paper"));
     assert!(rt; row_is(&slip, 1, b"glass"));
     Ok(())
@@ -191,18 +172,11 @@ fn one_behind_the_other(rt: HostRuntime) -> Result<(), Fail> {
 
 #[test]
 fn no_tokens(rt: HostRuntime) -> Result<(), Fail> {
-    let margin = Margin::new(16)?;
+    let margin = Margin::try_from(16)?;
     let drained = DirectJob::open(Slip::new(), margin, 1).drain();
     let outcome = drained.outcome();
     let slip = drained.into_sink();
-    assert_eq!(rt;
-        outcome,
-        Outcome::Whole {
-            bytes: 0,
-            newlines: 0,
-            widest: 0,
-        }
-    );
+    assert_eq!(rt; outcome, whole(0, 0, 0));
     assert!(rt; slip.row(1).is_none());
     Ok(())
 }
