@@ -8,6 +8,7 @@ use Rattle.rules.specs.declared.place.Expects.{Expects}
 use Rattle.rules.specs.declared.place.Expects.TheVariants.{First, After}
 use Rattle.layout.specs.declared.token.Break.{Break as Lead}
 use Rattle.rules.specs.declared.place.Move.{Move}
+use Rattle.rules.specs.declared.place.Spot.{Spot}
 use Rattle.rules.specs.declared.place.Move.TheVariants.{Opens, Closes}
 use Rattle.rules.specs.Rules.{Rules, Place, innermost, moves_at, is_some, admits, moved, placed, behind, stand_for}
 use Rattle.rules.specs.Machine.{State, on, dead, judged, begun, low, all_low}
@@ -20,8 +21,8 @@ use Rattle.reader.specs.Goes.{Stood}
 use Rattle.reader.proofs.Table.{count, pushed, popped}
 
 -- what the language answers, asked with the innermost bracket
-pub moves_as : (r : Rules) (p : Place) (b : ℕ) (k : Option Bracket) (m : Option Move) → k ≡ innermost p.brackets → m ≡ r.moves p.expects k b → moves_at r p b ≡ m
-moves_as r p b k m e f = sym (f ∙ ap (λ (x : Option Bracket). r.moves p.expects x b) e)
+pub moves_as : (r : Rules) (p : Place) (b : ℕ) (s : Spot) (m : Option Move) → s ≡ record { expects = p.expects; innermost = innermost p.brackets } → m ≡ r.moves s.expects s.innermost b → moves_at r p b ≡ m
+moves_as r p b s m e f = sym (f ∙ ap (λ (x : Spot). r.moves x.expects x.innermost b) e)
 
 pub stood : (r : Rules) (p : Place) (b : ℕ) (m : Move) (q : Place) (lead : Option Lead) (piece : Piece) → moves_at r p b ≡ Some m → q ≡ moved m p.brackets → lead ≡ r.lead p.expects b → piece ≡ piece_for lead (Some m)
     → Stood r p b q (Ok piece)

@@ -2,6 +2,7 @@
 use Rattle.std.proofs.Common.{◌≡◌, ℕ, Bool, true, ◌&&◌, List, [], ◌∷◌, ◌++◌, Some, None, Ok, Err, Option, Result, sym, refl, ap, ◌∙◌, subst}
 use Rattle.layout.specs.Tokens.{Token}
 use Rattle.grammar.specs.declared.refusal.Refusal.{Refusal}
+use Rattle.grammar.specs.Refusals.{number_of}
 use Rattle.grammar.specs.Meaning.{Word}
 use Rattle.rules.specs.declared.word.Inside.{Inside}
 use Rattle.rules.specs.Rules.{Rules, Place, behind}
@@ -54,7 +55,7 @@ close_word r l p i b w io sole h h' q (Ok done) f lp whole same o =
       tokens = ap (given_by r) is ∙ ap (λ (ts : List Token). ts ++ []) (piece_word r p b w);
       ends = ap (λ (t : Bool). t && no_brackets r (behind r p (b ∷ w))) whole ∙ ap (no_brackets r) (sym o.1);
     }
-close_word r l p i b w io sole h h' q (Err refusal) f lp whole same o = absurd (never_refused r l p i b w refusal.number f lp o)
+close_word r l p i b w io sole h h' q (Err refusal) f lp whole same o = absurd (never_refused r l p i b w (number_of refusal) f lp o)
 
 pub closes_within : (r : Rules) → Lawful r → (h h₁ h' : Held) (p p₁ q : Place) (i : Inside) (t : Bool) (x : Result (Unit {0}) Refusal) → Fit r (state_at h p) → h₁ ≡ settled h → p₁ ≡ p → low p₁ ≡ true → h₁.inside ≡ Some i
     → t ≡ true → t ≡ r.whole i h₁.bytes → ((b : ℕ) (w : Word) → h₁.bytes ≡ b ∷ w → Over r p₁ b h₁ h' q x) → Closes r (state_at h p) h' q x

@@ -4,6 +4,7 @@ use Rattle.std.proofs.lemmas.List.{length-append, length-take}
 use Rattle.std.proofs.lemmas.Bool.{and_from, cond-true, le-leb, lt-leb}
 use Rattle.layout.specs.Tokens.{Token}
 use Rattle.grammar.specs.declared.refusal.Refusal.{Refusal}
+use Rattle.grammar.specs.Refusals.{number_of}
 use Rattle.grammar.specs.Meaning.{Word, Answer, gives, refused}
 use Rattle.rules.specs.declared.word.Inside.{Inside}
 use Rattle.rules.specs.declared.word.Begin.TheVariants.{Sole, Starts}
@@ -101,7 +102,7 @@ goes_closing r l p i b w c io sole h h₁ h' p₁ q t x same f lp turn so small 
     by (Ok done) o is =
         closes r p i b w c sole q h' (turn ∙ ap (λ (y : Held). r.turns i y.bytes c) same) (sym (ap (λ (y : Held). short (y.bytes ++ c ∷ [])) same) ∙ (sym small ∙ so)) few o.1
         (o.2 ∙ ap (λ (y : Held). over (turned_to y None) (Some (piece_at r p b))) is)
-    by (Err refusal) o is = absurd (never_refused r l p i b w refusal.number f lp o)
+    by (Err refusal) o is = absurd (never_refused r l p i b w (number_of refusal) f lp o)
 
 -- a word ended before what a step ends
 abbrev after_word : Word → List Token → Answer → Answer

@@ -1,6 +1,7 @@
 -- How a reader goes on: by a word at its place, by a byte between words, by any byte.
 use Rattle.std.specs.Prelude.{◌≡◌, ℕ, true, false, [], ◌∷◌, ◌++◌, Some, None, Ok, Err, Option, Result}
 use Rattle.grammar.specs.declared.refusal.Refusal.{Refusal}
+use Rattle.grammar.specs.Refusals.{number_of}
 use Rattle.grammar.specs.Meaning.{Word, end, refused, gives}
 use Rattle.rules.specs.declared.word.Inside.{Inside}
 use Rattle.rules.specs.declared.word.Begin.TheVariants.{Sole}
@@ -29,7 +30,7 @@ longer h b = record { inside = h.inside; bytes = h.bytes ++ b ∷ []; waiting = 
 -- a word with this first byte stands at the place p, and q is the place behind it; or it is refused as a word of one byte is
 abbrev pub Stood : Rules → Place → ℕ → Place → Result Piece Refusal → Type 0
 Stood r p b q (Ok piece) = (admits r p b ≡ true) × (q ≡ behind r p (b ∷ [])) × (piece ≡ piece_at r p b)
-Stood r p b q (Err e) = judged r (at p None []) (begun (admits r p b) Sole b) ≡ refused e.number
+Stood r p b q (Err e) = judged r (at p None []) (begun (admits r p b) Sole b) ≡ refused (number_of e)
 
 -- the collected word, with this first byte, is over
 abbrev pub over : Held → Option Piece → Held
@@ -37,7 +38,7 @@ over h piece = record { inside = h.inside; bytes = h.bytes; waiting = h.waiting;
 
 abbrev pub Over : Rules → Place → ℕ → Held → Held → Place → Result (Unit {0}) Refusal → Type 0
 Over r p b h h' q (Ok done) = (admits r p b ≡ true) × (q ≡ behind r p (b ∷ [])) × (h' ≡ over h (Some (piece_at r p b)))
-Over r p b h h' q (Err e) = judged r (at p None []) (begun (admits r p b) Sole b) ≡ refused e.number
+Over r p b h h' q (Err e) = judged r (at p None []) (begun (admits r p b) Sole b) ≡ refused (number_of e)
 
 -- a byte between words, at the place p
 pub record Began (r : Rules) (p : Place) (b : ℕ) (h h' : Held) (q : Place) : Type 0 where
@@ -49,7 +50,7 @@ pub record Began (r : Rules) (p : Place) (b : ℕ) (h h' : Held) (q : Place) : T
 
 abbrev pub Begins : Rules → Place → ℕ → Held → Held → Place → Result (Unit {0}) Refusal → Type 0
 Begins r p b h h' q (Ok done) = Began r p b h h' q
-Begins r p b h h' q (Err e) = judged r (at p None []) (between r p b) ≡ refused e.number
+Begins r p b h h' q (Err e) = judged r (at p None []) (between r p b) ≡ refused (number_of e)
 
 -- a byte, from the state s
 pub record Went (r : Rules) (s : State) (b : ℕ) (h' : Held) (q : Place) : Type 0 where
@@ -59,7 +60,7 @@ pub record Went (r : Rules) (s : State) (b : ℕ) (h' : Held) (q : Place) : Type
 
 abbrev pub Goes : Rules → State → ℕ → Held → Place → Result (Unit {0}) Refusal → Type 0
 Goes r s b h' q (Ok done) = Went r s b h' q
-Goes r s b h' q (Err e) = judged r s (step r s b) ≡ refused e.number
+Goes r s b h' q (Err e) = judged r s (step r s b) ≡ refused (number_of e)
 
 -- the end ends the word under way in the state s, if it is whole
 pub record Closed (r : Rules) (s : State) (h' : Held) (q : Place) : Type 0 where
@@ -69,9 +70,9 @@ pub record Closed (r : Rules) (s : State) (h' : Held) (q : Place) : Type 0 where
 
 abbrev pub Closes : Rules → State → Held → Place → Result (Unit {0}) Refusal → Type 0
 Closes r s h' q (Ok done) = Closed r s h' q
-Closes r s h' q (Err e) = (finished r s.place s.inside s.word ≡ false) × (e.number ≡ 6)
+Closes r s h' q (Err e) = (finished r s.place s.inside s.word ≡ false) × (number_of e ≡ 6)
 
 -- the end, from the state s
 abbrev pub Finishes : Rules → State → Held → Result (Unit {0}) Refusal → Type 0
 Finishes r s h' (Ok done) = reply r s end ≡ gives (ended_by h') (given_by r h')
-Finishes r s h' (Err e) = reply r s end ≡ refused e.number
+Finishes r s h' (Err e) = reply r s end ≡ refused (number_of e)

@@ -2,7 +2,7 @@
 // way and the open brackets, and gives the tokens of each word that ends.
 //
 // `reader` has the reader, `piece` what stands around a word's Text, `tokens` the tokens of a word,
-// `ended` what is told of a word that ended, and `refusals` the numbers by which a reader refuses.
+// and `ended` what is told of a word that ended.
 // `specs/State` says what a reader holds, in the words of the machine that reads by the rules.
 #![tactic(auto)]
 
@@ -10,5 +10,4 @@ pub mod ended;
 pub mod laws;
 mod piece;
 pub mod reader;
-pub mod refusals;
 mod tokens;

@@ -2,19 +2,20 @@
 ghost use Rattle.std.specs.Prelude.{◌≡◌, Some};
 ghost use Rattle.reader.specs.Pieces.{piece_for, piece_count};
 
-use rules::place::{Lead, Move};
+use layout::token::Break;
+use rules::place::Move;
 
 // The Break in front of a word, if any; whether it opens a block; whether it ends one.
 #[derive(Clone, Copy)]
 pub(crate) struct Piece {
-    pub(crate) lead: Option<Lead>,
+    pub(crate) lead: Option<Break>,
     pub(crate) opens: bool,
     pub(crate) ends: bool,
 }
 
 impl Piece {
     // What stands around a word with this Break before it that does this.
-    pub(crate) fn new(lead: Option<Lead>, step: Move) -> Piece
+    pub(crate) fn new(lead: Option<Break>, step: Move) -> Piece
         ensures { result ≡ piece_for lead (Some step) }
     {
         match step {

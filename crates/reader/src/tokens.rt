@@ -14,7 +14,7 @@ pub(crate) fn token_if<L: Language>(
     piece: Option<Piece>,
     word: &[u8],
     number: u32,
-) -> Option<Token<'_>>
+) -> Option<Token<&[u8]>>
     ensures { Nth (tokens_if L.Language.rules piece word.now) number result }
 {
     match piece {
@@ -34,17 +34,14 @@ pub(crate) fn count_if(piece: Option<Piece>) -> u32
 }
 
 // The token of this number of a word: its Break comes first, if it has one.
-fn token_of<L: Language>(piece: Piece, word: &[u8], number: u32) -> Option<Token<'_>>
+fn token_of<L: Language>(piece: Piece, word: &[u8], number: u32) -> Option<Token<&[u8]>>
     ensures { Nth (piece_tokens L.Language.rules piece word.now) number result }
 {
     match piece.lead {
         None => token_behind_break::<L>(piece, word, number),
         Some(lead) => {
             if number == 0 {
-                return Some(Token::Break {
-                    blanks: lead.blanks,
-                    offset: lead.offset,
-                });
+                return Some(Token::Break(lead));
             }
             token_behind_break::<L>(piece, word, number - 1)
         }
@@ -52,25 +49,20 @@ fn token_of<L: Language>(piece: Piece, word: &[u8], number: u32) -> Option<Token
 }
 
 // The token of this number behind the Break: the Opening comes first, if the word opens a bracket.
-fn token_behind_break<L: Language>(piece: Piece, word: &[u8], number: u32) -> Option<Token<'_>>
+fn token_behind_break<L: Language>(piece: Piece, word: &[u8], number: u32) -> Option<Token<&[u8]>>
     ensures { Nth (behind_break L.Language.rules piece word.now) number result }
 {
     if !piece.opens {
         return text_or_ending::<L>(piece, word, number);
     }
     if number == 0 {
-        let form = L::block();
-        return Some(Token::Opening {
-            offset: form.offset,
-            fold: form.fold,
-            anchor: form.anchor,
-        });
+        return Some(Token::Opening(L::block()));
     }
     text_or_ending::<L>(piece, word, number - 1)
 }
 
 // The Text, and then the Ending, if the word closes a bracket.
-fn text_or_ending<L: Language>(piece: Piece, word: &[u8], number: u32) -> Option<Token<'_>>
+fn text_or_ending<L: Language>(piece: Piece, word: &[u8], number: u32) -> Option<Token<&[u8]>>
     ensures { Nth (Text (L.Language.rules.text word.now) ∷ ending piece.ends) number result }
 {
     if number == 0 {

@@ -2,6 +2,8 @@
 use Rattle.std.proofs.Common.{◌≡◌, ℕ, suc, ◌+◌, ◌<◌, ◌≤◌, min, false, List, [], ◌∷◌, ◌++◌, length, get_or, drop, Some, None, Ok, sym, refl, ap, ◌∙◌, subst, arith}
 use Rattle.std.proofs.lemmas.List.{drop_more, drop_all}
 use Rattle.std.proofs.lemmas.Bool.{both_ways}
+use Rattle.grammar.specs.declared.refusal.Refusal.{Refusal}
+use Rattle.grammar.specs.Refusals.{number_of}
 use Rattle.grammar.specs.Meaning.{Word as Bytes, end, Answer, refused, gives}
 use Rattle.rules.specs.Rules.{Rules, Place}
 use Rattle.rules.specs.Machine.{State, step, next, judged, reply, means, fresh}
@@ -46,12 +48,12 @@ end_stays r l Reading text k s s' waiting h' n m sound idle a =
 end_stays r l Ended text k s s' waiting h' n m sound idle a = absurd idle
 end_stays r l (Broken f) text k s s' waiting h' n m sound idle a = absurd idle
 
-pub end_breaks : (r : Rules) (st : Stage) (text : List ℕ) (k n : ℕ) (s s' : State) (waiting waiting' : List Placed) → length text ≤ k → SoundBy r st text k s waiting → IdleBy st waiting → (Fit r s → reply r s end ≡ refused n)
-    → Stays r st text k s waiting (Broken (record { number = n; place = k })) k s' waiting'
-end_breaks r Reading text k n s s' waiting waiting' h sound idle a =
+pub end_breaks : (r : Rules) (st : Stage) (text : List ℕ) (k : ℕ) (e : Refusal) (s s' : State) (waiting waiting' : List Placed) → length text ≤ k → SoundBy r st text k s waiting → IdleBy st waiting → (Fit r s → reply r s end ≡ refused (number_of e))
+    → Stays r st text k s waiting (Broken (record { refusal = e; place = k })) k s' waiting'
+end_breaks r Reading text k e s s' waiting waiting' h sound idle a =
     (sym (ap (story r.kind (means r s) k) (drop_all k text h) ∙ ap (story_end r.kind k) (a sound.0)) ∙ nothing_waits waiting (story r.kind (means r s) k (drop k text)) idle, tt)
-end_breaks r Ended text k n s s' waiting waiting' h sound idle a = absurd idle
-end_breaks r (Broken f) text k n s s' waiting waiting' h sound idle a = absurd idle
+end_breaks r Ended text k e s s' waiting waiting' h sound idle a = absurd idle
+end_breaks r (Broken f) text k e s s' waiting waiting' h sound idle a = absurd idle
 
 -- a byte
 pub byte_stays : (r : Rules) → Lawful r → (st : Stage) (text : List ℕ) (k b : ℕ) (s : State) (waiting : List Placed) (h' : Held) (q : Place) → k < length text → b ≡ get_or text k 0 → SoundBy r st text k s waiting → IdleBy st waiting → (Fit r s → Went r s b h' q)
@@ -67,14 +69,14 @@ byte_stays r l Reading text k b s waiting h' q n e sound idle a =
 byte_stays r l Ended text k b s waiting h' q n e sound idle a = absurd idle
 byte_stays r l (Broken f) text k b s waiting h' q n e sound idle a = absurd idle
 
-pub byte_breaks : (r : Rules) (st : Stage) (text : List ℕ) (k b n : ℕ) (s s' : State) (waiting waiting' : List Placed) → k < length text → b ≡ get_or text k 0 → SoundBy r st text k s waiting → IdleBy st waiting → (Fit r s → judged r s (step r s b) ≡ refused n)
-    → Stays r st text k s waiting (Broken (record { number = n; place = k })) k s' waiting'
-byte_breaks r Reading text k b n s s' waiting waiting' h e sound idle a =
+pub byte_breaks : (r : Rules) (st : Stage) (text : List ℕ) (k b : ℕ) (d : Refusal) (s s' : State) (waiting waiting' : List Placed) → k < length text → b ≡ get_or text k 0 → SoundBy r st text k s waiting → IdleBy st waiting → (Fit r s → judged r s (step r s b) ≡ refused (number_of d))
+    → Stays r st text k s waiting (Broken (record { refusal = d; place = k })) k s' waiting'
+byte_breaks r Reading text k b d s s' waiting waiting' h e sound idle a =
     let rest : List ℕ = drop (k + 1) text in
     let cut : drop k text ≡ b ∷ rest = drop_more text k 0 h ∙ ap (λ (x : ℕ). x ∷ rest) (sym e) in
     (sym (ap (story r.kind (means r s) k) cut ∙ ap (λ (x : Answer). story_byte r.kind k x (story r.kind (means r (next r s (step r s b))) (suc k) rest)) (a sound.0)) ∙ nothing_waits waiting (story r.kind (means r s) k (drop k text)) idle, tt)
-byte_breaks r Ended text k b n s s' waiting waiting' h e sound idle a = absurd idle
-byte_breaks r (Broken f) text k b n s s' waiting waiting' h e sound idle a = absurd idle
+byte_breaks r Ended text k b d s s' waiting waiting' h e sound idle a = absurd idle
+byte_breaks r (Broken f) text k b d s s' waiting waiting' h e sound idle a = absurd idle
 
 -- each turn leaves fewer
 pub fewer_ended : (st : Stage) (text : List ℕ) (k : ℕ) → st ≡ Reading → 0 < turns_by st text k

@@ -1,5 +1,6 @@
 -- What is handed out: a word by its kind, a refusal, or nothing.
 use Rattle.std.specs.Prelude.{◌≡◌, List, [], ◌∷◌, Some, None, Ok, Err, Option, Result}
+use Rattle.grammar.specs.Refusals.{number_of}
 use Rattle.grammar.specs.Meaning.{Word as Bytes}
 use Rattle.rules.specs.declared.word.Kind.{Kind}
 use Rattle.rules.specs.declared.word.Kind.TheVariants.{Opening, Closing, Comma, Colon, Text, Number, Literal, Atom}
@@ -41,7 +42,7 @@ OfKind r (b ∷ w) k = k ≡ r.kind b
 -- none or the refusal, and then the same again.
 abbrev pub Handed : Rules → Story → Story → Option (Result Word ReadFault) → Type 0
 Handed r s s' None = (s.told ≡ []) × (s.close ≡ whole) × (s' ≡ s)
-Handed r s s' (Some (Err f)) = (s.told ≡ []) × (s.close ≡ broken f.number f.place) × (s' ≡ s)
+Handed r s s' (Some (Err f)) = (s.told ≡ []) × (s.close ≡ broken (number_of f.refusal) f.place) × (s' ≡ s)
 Handed r s s' (Some (Ok w)) = (s.told ≡ placed_of w ∷ s'.told) × (s'.close ≡ s.close) × OfKind r (placed_of w).word (kind_of w)
 
 -- the first of the words that wait, if any

@@ -1,5 +1,6 @@
 -- What a word reader has still to hand out.
 use Rattle.std.specs.Prelude.{◌≡◌, ℕ, suc, ◌-◌, ◌<◌, Bool, true, false, List, [], ◌∷◌, ◌++◌, length, take, drop}
+use Rattle.grammar.specs.Refusals.{number_of}
 use Rattle.grammar.specs.Meaning.{Word as Bytes}
 use Rattle.rules.specs.Rules.{Rules}
 use Rattle.rules.specs.Machine.{State, means}
@@ -15,7 +16,7 @@ use Rattle.words.specs.declared.words.Words.{Words}
 abbrev pub left_by : Rules → Stage → List ℕ → ℕ → State → List Placed → Story
 left_by r Reading text at s waiting = before waiting (story r.kind (means r s) at (drop at text))
 left_by r Ended text at s waiting = record { told = waiting; close = whole }
-left_by r (Broken f) text at s waiting = record { told = []; close = broken f.number f.place }
+left_by r (Broken f) text at s waiting = record { told = []; close = broken (number_of f.refusal) f.place }
 
 -- the words that wait: those of the last byte, or of the end, that have not been handed out
 abbrev pub waiting_of : {L : Type 0} → Rules → Words L → List Placed

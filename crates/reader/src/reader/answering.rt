@@ -43,7 +43,7 @@ impl<L: Language> Grammar for Reader<L> {
         }
     }
 
-    fn token(&self, number: u32) -> Option<Token<'_>> {
+    fn token(&self, number: u32) -> Option<Token<&[u8]>> {
         let first = count_if(self.collected);
         if number < first {
             token_if::<L>(self.collected, &self.word[..self.len], number)

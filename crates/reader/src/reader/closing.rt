@@ -6,7 +6,6 @@ ghost use Rattle.reader.specs.State.{place_of, held_of, state_of};
 ghost use Rattle.reader.specs.Goes.{Closes, Finishes};
 
 use crate::reader::Reader;
-use crate::refusals::UNFINISHED;
 use grammar::refusal::Refusal;
 use rules::language::Language;
 
@@ -20,7 +19,7 @@ impl<L: Language> Reader<L> {
                 if self.may_close() {
                     Ok(())
                 } else {
-                    Err(Refusal { number: UNFINISHED })
+                    Err(Refusal::Unfinished)
                 }
             }
             Err(refusal) => Err(refusal),
@@ -36,7 +35,7 @@ impl<L: Language> Reader<L> {
             None => Ok(()),
             Some(inside) => {
                 if !L::whole(inside, &self.word[..self.len]) {
-                    return Err(Refusal { number: UNFINISHED });
+                    return Err(Refusal::Unfinished);
                 }
                 self.end_word()
             }

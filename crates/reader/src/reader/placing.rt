@@ -7,10 +7,9 @@ ghost use Rattle.reader.specs.Goes.{Stood};
 
 use crate::piece::Piece;
 use crate::reader::{MOST_OPEN, Reader};
-use crate::refusals::{MANY_BRACKETS, NO_DOCUMENT};
 use grammar::refusal::Refusal;
 use rules::language::Language;
-use rules::place::{Bracket, Expects, Move};
+use rules::place::{Bracket, Expects, Move, Spot};
 
 impl<L: Language> Reader<L> {
     // The innermost open bracket.
@@ -24,11 +23,21 @@ impl<L: Language> Reader<L> {
         }
     }
 
+    // Where the next word would stand.
+    fn spot(&self) -> Spot
+        ensures { result ≡ record { expects = (place_of self.now).expects; innermost = innermost (place_of self.now).brackets } }
+    {
+        Spot {
+            expects: self.expects,
+            innermost: self.innermost(),
+        }
+    }
+
     // May a word with this first byte stand at the place?
     pub(crate) fn admits(&self, first: u8) -> bool
         ensures { result ≡ admits L.Language.rules (place_of self.now) first }
     {
-        L::moves(self.expects, self.innermost(), first).is_some()
+        L::moves(self.spot(), first).is_some()
     }
 
     // Puts a word with this first byte at the place, and goes to the place behind it.
@@ -37,17 +46,13 @@ impl<L: Language> Reader<L> {
         ensures stood { Stood L.Language.rules (place_of self.old) first (place_of self.new) result }
     {
         let lead = L::lead(self.expects, first);
-        match L::moves(self.expects, self.innermost(), first) {
-            None => Err(Refusal {
-                number: NO_DOCUMENT,
-            }),
+        match L::moves(self.spot(), first) {
+            None => Err(Refusal::NoDocument),
             Some(step) => {
                 if self.go(step) {
                     Ok(Piece::new(lead, step))
                 } else {
-                    Err(Refusal {
-                        number: MANY_BRACKETS,
-                    })
+                    Err(Refusal::ManyBrackets)
                 }
             }
         }

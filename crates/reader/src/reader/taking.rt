@@ -9,7 +9,6 @@ ghost use Rattle.reader.specs.State.{place_of, held_of, state_of};
 ghost use Rattle.reader.specs.Goes.{clean, longer, Goes};
 
 use crate::reader::{MOST_BYTES, Reader};
-use crate::refusals::{LONG_WORD, NO_DOCUMENT};
 use grammar::refusal::Refusal;
 use rules::language::Language;
 use rules::word::{Inside, Turn};
@@ -33,23 +32,21 @@ impl<L: Language> Reader<L> {
         match L::turns(inside, &self.word[..self.len], byte) {
             Turn::Stays(next) => {
                 if !self.collect(byte) {
-                    return Err(Refusal { number: LONG_WORD });
+                    return Err(Refusal::LongWord);
                 }
                 self.inside = Some(next);
                 Ok(())
             }
             Turn::Closes => {
                 if !self.collect(byte) {
-                    return Err(Refusal { number: LONG_WORD });
+                    return Err(Refusal::LongWord);
                 }
                 self.inside = None;
                 self.end_word()
             }
             Turn::Never => {
                 if !self.may_end(inside, byte) {
-                    return Err(Refusal {
-                        number: NO_DOCUMENT,
-                    });
+                    return Err(Refusal::NoDocument);
                 }
                 match self.end_word() {
                     Ok(()) => self.between(byte),

@@ -5,7 +5,6 @@ ghost use Rattle.reader.specs.State.{place_of, held_of};
 ghost use Rattle.reader.specs.Goes.{settled, Over, Begins};
 
 use crate::reader::Reader;
-use crate::refusals::NO_DOCUMENT;
 use grammar::refusal::Refusal;
 use rules::language::Language;
 use rules::word::Begin;
@@ -58,17 +57,13 @@ impl<L: Language> Reader<L> {
             },
             Begin::Starts(inside) => {
                 if !self.admits(byte) {
-                    return Err(Refusal {
-                        number: NO_DOCUMENT,
-                    });
+                    return Err(Refusal::NoDocument);
                 }
                 self.inside = Some(inside);
                 self.begun = Some(byte);
                 Ok(())
             }
-            Begin::Never => Err(Refusal {
-                number: NO_DOCUMENT,
-            }),
+            Begin::Never => Err(Refusal::NoDocument),
         }
     }
 }

@@ -48,10 +48,7 @@ impl<'a, L: Language> Words<'a, L> {
                 self.handed = 0;
             }
             Err(refusal) => {
-                self.stage = Stage::Broken(ReadFault {
-                    number: refusal.number,
-                    place,
-                });
+                self.stage = Stage::Broken(ReadFault { refusal, place });
             }
         }
     }
@@ -70,10 +67,7 @@ impl<'a, L: Language> Words<'a, L> {
                 self.stage = Stage::Ended;
             }
             Err(refusal) => {
-                self.stage = Stage::Broken(ReadFault {
-                    number: refusal.number,
-                    place,
-                });
+                self.stage = Stage::Broken(ReadFault { refusal, place });
             }
         }
     }

@@ -1,3 +1,4 @@
+use Rattle.grammar.specs.Refusals.{number_of}
 use Rattle.std.proofs.Common.{ap}
 use Rattle.reader.specs.State.{Held, held_of, place_of}
 use Rattle.reader.proofs.Places.{place_low}
@@ -24,4 +25,4 @@ returns-in-Ok g c = λ io b w sole e f.
 pub returns-in-Err : goal.returns-in-Err
 returns-in-Err g c = λ io b w sole e f.
     let v = c.args.self.now in
-    absurd (never_refused g.L.Language.rules g.L.Language.lawful (place_of v) c.args.inside b w c.in-Err.refusal.number f (place_low v) (c.in-Err.ensures b w (ap (λ (x : Held). x.bytes) e)))
+    absurd (never_refused g.L.Language.rules g.L.Language.lawful (place_of v) c.args.inside b w (number_of c.in-Err.refusal) f (place_low v) (c.in-Err.ensures b w (ap (λ (x : Held). x.bytes) e)))
