@@ -28,21 +28,18 @@ pub trait Grammar: Sized {
 
     ghost given: { Self → List Given };
 
-    // a reader that came about by these calls, none of them refused
-    ghost valid: { Self → Type 0 };
-
     // A reader before the first byte.
     fn fresh() -> Self
         ensures whole { meaning result ≡ whole }
-        ensures valid { valid result };
+        ensures given { given result ≡ [] };
 
-    // Takes a byte, and gives the tokens of the words that it ends; or refuses it.
+    // Takes a byte, and gives the tokens of the words that it ends; or refuses it, and means what it did.
     fn take(&mut self, byte: u8) -> Result<Step, Refusal>
-        ensures { valid self.old → Took (meaning self.old) byte (valid self.new) (meaning self.new) (given self.new) result };
+        ensures { Took (meaning self.old) byte (meaning self.new) (given self.new) result };
 
-    // Ends the document, and gives the tokens still missing; or refuses the end.
+    // Ends the document, and gives the tokens still missing; or refuses the end, and means what it did.
     fn end(&mut self) -> Result<Step, Refusal>
-        ensures { valid self.old → Closed (meaning self.old) (given self.new) result };
+        ensures { Closed (meaning self.old) (meaning self.new) (given self.new) result };
 
     // The token of this number among those given last, if there are so many.
     fn token(&self, number: u32) -> Option<Token<&[u8]>>
@@ -50,5 +47,5 @@ pub trait Grammar: Sized {
 
     // The brackets open among the words that the bytes taken have ended.
     fn depth(&self) -> u32
-        ensures { valid self.now → result ≡ (meaning self.now).depth [] };
+        ensures { result ≡ (meaning self.now).depth [] };
 }

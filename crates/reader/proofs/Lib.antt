@@ -1,7 +1,4 @@
-pub mod Table
-pub mod Places
-pub mod Words
-pub mod Steps
-pub mod Settled
-pub mod Replies
 pub mod Endings
+pub mod Sound
+pub mod Placing
+pub mod Leaves

@@ -1,5 +1,5 @@
 -- What is told of words that ended.
-use Rattle.std.specs.Prelude.{◌≡◌, ℕ, zero, suc, Bool, true, false, not, List, [], ◌∷◌, ◌++◌, length, Some, None, Option}
+use Rattle.std.specs.Prelude.{◌≡◌, ℕ, zero, suc, Bool, true, false, List, [], ◌∷◌, ◌++◌, length, Some, None, Option}
 use Rattle.grammar.specs.Meaning.{Word}
 use Rattle.rules.specs.declared.word.Inside.{Inside}
 use Rattle.rules.specs.Rules.{Rules, loose}
@@ -7,10 +7,10 @@ use Rattle.rules.specs.Machine.{State, on, step, pending, finished}
 use Rattle.reading.specs.Fit.{Fit}
 use Rattle.reader.specs.declared.ended.Ended.{Ended}
 
--- the kind of a word shows in its first byte, and whether it has a last byte of its own in its kind
+-- the kind of a word shows in its first byte
 abbrev pub described : Rules → Word → Option Ended
 described r [] = None
-described r (b ∷ w) = Some (record { kind = r.kind b; len = length (b ∷ w); own = not (loose (r.kind b)) })
+described r (b ∷ w) = Some (record { kind = r.kind b; len = length (b ∷ w) })
 
 -- the word of this number
 abbrev pub described_at : Rules → List Word → ℕ → Option Ended
@@ -37,7 +37,7 @@ AllLoose r [] = Unit {0}
 AllLoose r ([] ∷ ws) = ⊥
 AllLoose r ((c ∷ w) ∷ ws) = (loose (r.kind c) ≡ true) × AllLoose r ws
 
--- so what is told of a word says whether its last byte is the byte that ended it
+-- so the kind of a word says whether its last byte is the byte that ended it
 pub record OwnIsLast (r : Rules) : Type 0 where
   pub by_byte : (s : State) (b : ℕ) (io : Option Inside) (v : Word) (ws : List Word) → Fit r s → step r s b ≡ on io v ws → AllEndedAt r s.word b ws
   pub by_end : (s : State) → Fit r s → finished r s.place s.inside s.word ≡ true → AllLoose r (pending s.inside s.word)

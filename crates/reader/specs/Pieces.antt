@@ -1,54 +1,52 @@
--- The tokens that stand for a word, by what stands around its Text.
-use Rattle.std.specs.Prelude.{ℕ, ◌+◌, Bool, true, false, List, [], ◌∷◌, ◌++◌, Some, None, Option}
-use Rattle.layout.specs.Tokens.{Token, Text, Opening, Ending}
+-- The tokens that stand for a word, by what stands around its Text; and the words that are over, with their tokens.
+use Rattle.std.specs.Prelude.{ℕ, List, [], ◌∷◌, ◌++◌, Some, None, Option}
+use Rattle.layout.specs.Tokens.{Token, Text}
 use Rattle.grammar.specs.Meaning.{Word}
 use Rattle.layout.specs.declared.token.Break.{Break as Lead}
 use Rattle.rules.specs.declared.place.Move.{Move}
-use Rattle.rules.specs.declared.place.Move.TheVariants.{Within, Opens, Closes}
-use Rattle.layout.specs.declared.token.Opening.{Opening as BlockForm}
-use Rattle.rules.specs.Rules.{Rules, Place, moves_at, is_some, led}
+use Rattle.rules.specs.Rules.{Rules, Place, moves_at, led, opened, closed}
 use Rattle.reader.specs.declared.piece.Piece.{Piece}
+use Rattle.reader.specs.declared.over.Own.{Own}
+use Rattle.reader.specs.declared.over.Over.{Over}
 
--- the Opening, and the Ending, if there is one
-abbrev pub opening : Bool → BlockForm → List Token
-opening false f = []
-opening true f = Opening f.offset f.fold f.anchor ∷ []
+-- what stands around a word with this first byte at a place; none where it may not stand there
+abbrev pub piece_for : Option Lead → Option Move → Option Piece
+piece_for lead None = None
+piece_for lead (Some m) = Some (record { lead = lead; step = m })
 
-abbrev pub ending : Bool → List Token
-ending false = []
-ending true = Ending ∷ []
+abbrev pub piece_at : Rules → Place → ℕ → Option Piece
+piece_at r p b = piece_for (r.lead p.expects b) (moves_at r p b)
+
+abbrev pub piece_of : Rules → Place → Word → Option Piece
+piece_of r p [] = None
+piece_of r p (b ∷ w) = piece_at r p b
 
 -- the tokens of the word w, those behind the Break first
-abbrev pub behind_break : Rules → Piece → Word → List Token
-behind_break r c w = opening c.opens r.block ++ (Text (r.text w) ∷ ending c.ends)
+abbrev pub behind_break : Rules → Move → Word → List Token
+behind_break r m w = opened r.block (Some m) ++ (Text (r.text w) ∷ closed (Some m))
 
 abbrev pub piece_tokens : Rules → Piece → Word → List Token
-piece_tokens r c w = led c.lead ++ behind_break r c w
+piece_tokens r c w = led c.lead ++ behind_break r c.step w
 
-abbrev pub bit : Bool → ℕ
-bit false = 0
-bit true = 1
+-- the words that are over, of which the first was collected, and the tokens that stand for them
+abbrev pub word_if : Option Piece → Word → List Word
+word_if None w = []
+word_if (Some c) w = w ∷ []
 
--- how many
-abbrev pub piece_count : Piece → ℕ
-piece_count c = 1 + bit (is_some c.lead) + bit c.opens + bit c.ends
+abbrev pub own_word : Option Own → List Word
+own_word None = []
+own_word (Some o) = (o.byte ∷ []) ∷ []
 
--- what stands around a word that does this
-abbrev pub does_open : Option Move → Bool
-does_open None = false
-does_open (Some (Within e)) = false
-does_open (Some (Opens k)) = true
-does_open (Some Closes) = false
+abbrev pub ended_by : Over → Word → List Word
+ended_by o w = word_if o.collected w ++ own_word o.own
 
-abbrev pub does_end : Option Move → Bool
-does_end None = false
-does_end (Some (Within e)) = false
-does_end (Some (Opens k)) = false
-does_end (Some Closes) = true
+abbrev pub tokens_if : Rules → Option Piece → Word → List Token
+tokens_if r None w = []
+tokens_if r (Some c) w = piece_tokens r c w
 
-abbrev pub piece_for : Option Lead → Option Move → Piece
-piece_for lead m = record { lead = lead; opens = does_open m; ends = does_end m }
+abbrev pub own_tokens : Rules → Option Own → List Token
+own_tokens r None = []
+own_tokens r (Some o) = piece_tokens r o.piece (o.byte ∷ [])
 
--- what stands around a word with this first byte at a place
-abbrev pub piece_at : Rules → Place → ℕ → Piece
-piece_at r p b = piece_for (r.lead p.expects b) (moves_at r p b)
+abbrev pub given_by : Rules → Over → Word → List Token
+given_by r o w = tokens_if r o.collected w ++ own_tokens r o.own

@@ -1,29 +1,32 @@
 -- What a reader holds, in the words of the machine that reads by the rules.
-use Rattle.std.specs.Prelude.{ℕ, List, [], ◌∷◌, ◌++◌, reverse, take, Some, None, Option}
+use Rattle.std.specs.Prelude.{◌≡◌, ℕ, true, List, [], ◌∷◌, reverse, Some, None, Option}
 use Rattle.layout.specs.Tokens.{Token}
 use Rattle.grammar.specs.Meaning.{Word}
 use Rattle.rules.specs.declared.word.Inside.{Inside}
+use Rattle.rules.specs.declared.place.Bracket.{Bracket}
+use Rattle.rules.specs.declared.place.Expects.{Expects}
 use Rattle.rules.specs.Rules.{Rules, Place}
-use Rattle.rules.specs.Machine.{State}
+use Rattle.rules.specs.Machine.{State, low}
+use Rattle.reading.specs.Accepts.{at}
+use Rattle.reading.specs.Fit.{Fit}
+use Rattle.reader.specs.declared.over.Over.{Over}
 use Rattle.reader.specs.declared.piece.Piece.{Piece}
-use Rattle.reader.specs.declared.reader.Reader.{Reader}
-use Rattle.reader.specs.Pieces.{piece_tokens, piece_count}
+use Rattle.reader.specs.Pieces.{piece_of, ended_by, given_by}
 
--- where the next word would stand
-abbrev pub place_of : {L : Type 0} → Reader L → Place
-place_of v = record { expects = v.expects; brackets = reverse (take v.depth v.brackets) }
-
--- the words that a reader holds, under way or ended
+-- the place of the word under way, or of the next; the word under way, by the bytes collected or by one that waits
 pub record Held : Type 0 where
+  pub place : Place
   pub inside : Option Inside
   pub bytes : Word
   pub waiting : Option ℕ
-  pub collected : Option Piece
-  pub own : Option Piece
-  pub sole : Word
 
-abbrev pub held_of : {L : Type 0} → Reader L → Held
-held_of v = record { inside = v.inside; bytes = take v.len v.word; waiting = v.begun; collected = v.collected; own = v.own; sole = v.sole }
+-- the brackets as a machine keeps them, the innermost last
+abbrev pub held : Expects → List Bracket → Option Inside → Word → Option ℕ → Held
+held e ks io w waiting = record { place = record { expects = e; brackets = reverse ks }; inside = io; bytes = w; waiting = waiting }
+
+-- the same brackets, where this may come
+abbrev pub expecting : Expects → Place → Place
+expecting e p = record { expects = e; brackets = p.brackets }
 
 -- the bytes of the word under way: one that waits, or those collected
 abbrev pub under_way : Option Inside → Option ℕ → Word → Word
@@ -31,27 +34,37 @@ under_way None waiting w = []
 under_way (Some i) None w = w
 under_way (Some i) (Some b) w = b ∷ []
 
-abbrev pub state_at : Held → Place → State
-state_at h p = record { inside = h.inside; word = under_way h.inside h.waiting h.bytes; place = p }
+abbrev pub state_of : Held → State
+state_of h = record { inside = h.inside; word = under_way h.inside h.waiting h.bytes; place = h.place }
 
-abbrev pub state_of : {L : Type 0} → Reader L → State
-state_of v = state_at (held_of v) (place_of v)
+-- the byte that waits is collected
+abbrev pub collected_bytes : Option ℕ → Word → Word
+collected_bytes None w = w
+collected_bytes (Some b) w = b ∷ []
 
--- the words ended last, and the tokens that stand for them
-abbrev pub word_if : Option Piece → Word → List Word
-word_if None w = []
-word_if (Some c) w = w ∷ []
+abbrev pub settled : Held → Held
+settled h = record { place = h.place; inside = h.inside; bytes = collected_bytes h.waiting h.bytes; waiting = None }
 
-abbrev pub tokens_if : Rules → Option Piece → Word → List Token
-tokens_if r None w = []
-tokens_if r (Some c) w = piece_tokens r c w
+-- What every machine keeps: its state is one that bytes lead to, and not too many brackets are open.
+pub record Sound (r : Rules) (s : State) : Type 0 where
+  pub fit : Fit r s
+  pub shallow : low s.place ≡ true
 
-abbrev pub count_if : Option Piece → ℕ
-count_if None = 0
-count_if (Some c) = piece_count c
+-- of a machine whose word under way is collected, and what stands around that word at its place
+pub record Around (r : Rules) (h : Held) (i : Inside) (k : Piece) : Type 0 where
+  pub state : state_of h ≡ at h.place (Some i) h.bytes
+  pub sound : Sound r (at h.place (Some i) h.bytes)
+  pub piece : piece_of r h.place h.bytes ≡ Some k
 
-abbrev pub ended_by : Held → List Word
-ended_by h = word_if h.collected h.bytes ++ word_if h.own h.sole
+-- A reader, as its callers see it: its state; the words ended last, and the tokens that stand for them.
+pub record Reading : Type 0 where
+  pub state : State
+  pub ended : List Word
+  pub given : List Token
 
-abbrev pub given_by : Rules → Held → List Token
-given_by r h = tokens_if r h.collected h.bytes ++ tokens_if r h.own h.sole
+abbrev pub reading : Rules → Held → Over → Reading
+reading r h o = record { state = state_of h; ended = ended_by o h.bytes; given = given_by r o h.bytes }
+
+-- a reader that has ended nothing
+abbrev pub at_rest : State → Reading
+at_rest s = record { state = s; ended = []; given = [] }

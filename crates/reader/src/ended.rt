@@ -1,43 +1,49 @@
 // What is told of a word that ended.
 ghost use Rattle.std.specs.Prelude.{◌≡◌, not};
 ghost use Rattle.rules.specs.Rules.{loose};
-ghost use Rattle.reader.specs.Endings.{described};
+ghost use Rattle.reader.specs.Pieces.{own_word};
+ghost use Rattle.reader.specs.Endings.{described, described_at};
 
+use crate::over::Own;
 use rules::language::Language;
 use rules::word::Kind;
+use std::slice;
 
-// Its kind, its length in bytes, and whether its last byte is the byte that ended it: so of a string
-// and of a word of one byte, while a number, a literal or an atom is over before that byte.
+// Its kind, and its length in bytes.
 #[derive(Clone, Copy)]
 pub struct Ended {
     pub kind: Kind,
     pub len: usize,
-    pub own: bool,
+}
+
+impl Ended {
+    // Is its last byte the byte that ended it? So it is of a string and of a word of one byte, while a
+    // number, a literal or an atom is over before that byte.
+    pub fn own(self) -> bool
+        ensures { result ≡ not (loose self.kind) }
+    {
+        match self.kind {
+            Kind::Opening | Kind::Closing | Kind::Comma | Kind::Colon | Kind::Text => true,
+            Kind::Number | Kind::Literal | Kind::Atom => false,
+        }
+    }
 }
 
 // What is told of a word; nothing of one without bytes.
 pub(crate) fn describe<L: Language>(word: &[u8]) -> Option<Ended>
     ensures { result ≡ described L.Language.rules word.now }
 {
-    match word {
-        [] => None,
-        [first, ..] => {
-            let kind = L::kind(*first);
-            Some(Ended {
-                kind,
-                len: word.len(),
-                own: has_last_byte(kind),
-            })
-        }
-    }
+    let first = word.first()?;
+    Some(Ended {
+        kind: L::kind(*first),
+        len: word.len(),
+    })
 }
 
-// Have words of this kind a last byte of their own?
-fn has_last_byte(kind: Kind) -> bool
-    ensures { result ≡ not (loose kind) }
+// What is told of the byte that is a word of its own, if there is one and this number is 0.
+pub(crate) fn describe_own<L: Language>(own: Option<Own>, number: u32) -> Option<Ended>
+    ensures { result ≡ described_at L.Language.rules (own_word own) number }
 {
-    match kind {
-        Kind::Opening | Kind::Closing | Kind::Comma | Kind::Colon | Kind::Text => true,
-        Kind::Number | Kind::Literal | Kind::Atom => false,
-    }
+    let own = own.filter(|_| number == 0)?;
+    describe::<L>(slice::from_ref(&own.byte))
 }

@@ -1,46 +1,40 @@
 // The tokens around the Text of a word.
-ghost use Rattle.std.specs.Prelude.{◌≡◌, Some};
-ghost use Rattle.reader.specs.Pieces.{piece_for, piece_count};
+ghost use Rattle.std.specs.Prelude.{◌≡◌, ◌≤◌, [], length};
+ghost use Rattle.grammar.specs.Meaning.{Word};
+ghost use Rattle.rules.specs.Rules.{Rules, moved};
+ghost use Rattle.reader.specs.Pieces.{piece_tokens};
 
 use layout::token::Break;
-use rules::place::Move;
+use rules::place::{Expects, Move};
 
-// The Break in front of a word, if any; whether it opens a block; whether it ends one.
+// The Break in front of a word, if any, and what the word does to the place.
 #[derive(Clone, Copy)]
 pub(crate) struct Piece {
     pub(crate) lead: Option<Break>,
-    pub(crate) opens: bool,
-    pub(crate) ends: bool,
+    pub(crate) step: Move,
 }
 
 impl Piece {
-    // What stands around a word with this Break before it that does this.
-    pub(crate) fn new(lead: Option<Break>, step: Move) -> Piece
-        ensures { result ≡ piece_for lead (Some step) }
+    // What may come behind the word.
+    pub(crate) fn behind(self) -> Expects
+        ensures { result ≡ (moved self.step []).expects }
     {
-        match step {
-            Move::Within(_) => Piece {
-                lead,
-                opens: false,
-                ends: false,
-            },
-            Move::Opens(_) => Piece {
-                lead,
-                opens: true,
-                ends: false,
-            },
-            Move::Closes => Piece {
-                lead,
-                opens: false,
-                ends: true,
-            },
+        match self.step {
+            Move::Within(expects) => expects,
+            Move::Opens(_) => Expects::First,
+            Move::Closes => Expects::After,
         }
     }
 
     // How many tokens these are, with the Text.
-    pub(crate) fn count(&self) -> u32
-        ensures { result ≡ piece_count self.now }
+    pub(crate) fn count(self) -> u32
+        ensures count { (r : Rules) (w : Word) → result ≡ length (piece_tokens r self w) }
+        ensures few { result ≤ 3 }
     {
-        1 + self.lead.is_some() as u32 + self.opens as u32 + self.ends as u32
+        let around = match self.step {
+            Move::Within(_) => 0,
+            Move::Opens(_) | Move::Closes => 1,
+        };
+        1 + self.lead.is_some() as u32 + around
     }
 }

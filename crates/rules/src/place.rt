@@ -1,13 +1,14 @@
 // Where a word may stand, and what it does there.
 
-// The brackets.
-#[derive(Clone, Copy, PartialEq, Eq, Debug)]
+// The brackets; a list's stands where none is kept yet.
+#[derive(Clone, Copy, Default, PartialEq, Eq, Debug)]
 pub enum Bracket {
     // [ ]
     Array,
     // { }
     Object,
     // ( )
+    #[default]
     List,
 }
 

@@ -1,8 +1,11 @@
-use Rattle.reader.specs.State.{held_of, place_of, state_of}
-use Rattle.reader.proofs.Replies.{took}
+use Rattle.std.proofs.Common.{sym, ap}
+use Rattle.rules.specs.Machine.{means}
+use Rattle.reader.proofs.Sound.{next_state}
 use Rattle.reader.proofs.reader.answering.ReaderGrammar.take.Goals as goal
 
-pub returns-in-Ok : goal.returns-in-Ok
-returns-in-Ok g c = λ f.
+pub returns : goal.returns
+returns g c =
+    let r = g.L.Language.rules in
+    let w = c.in_ok-step.ensures in
     let v = c.step.new.self in
-    took g.L.Language.rules (state_of c.args.self.now) c.args.byte (held_of v) (place_of v) c.counted.result f (c.in-Ok.ensures f) c.counted.ensures.words c.counted.ensures.tokens
+    (sym (ap (means r) (next_state r c.args.self.now.state c.args.byte v w)), (v.ended, w.answered, c.counted.ensures.words, c.counted.ensures.tokens))

@@ -1,0 +1,84 @@
+// The machine that reads by the rules: the word under way, and the place at which it or the next
+// word stands. It keeps what every state keeps that bytes lead to, so a word under way may stand at
+// its place. What it refuses leaves that state as it was.
+ghost use Rattle.std.specs.Prelude.{◌≡◌, length};
+ghost use Rattle.rules.specs.Machine.{first_place};
+ghost use Rattle.reader.specs.State.{settled};
+
+use crate::reader::{MOST_BYTES, MOST_OPEN};
+use arrayvec::ArrayVec;
+use rules::language::Language;
+use rules::place::{Bracket, Expects};
+use rules::word::Inside;
+use std::marker::{Model, PhantomData};
+
+mod closing;
+mod placing;
+mod taking;
+
+#[derive(Drop)]
+pub(crate) struct Machine<L: Language> {
+    language: PhantomData<L>,
+    // what may come next, and the open brackets, the innermost last
+    expects: Expects,
+    brackets: ArrayVec<Bracket, MOST_OPEN>,
+    // how far the word under way has come; none between words
+    inside: Option<Inside>,
+    // the bytes of the word under way, or of the collected word that is over
+    word: ArrayVec<u8, MOST_BYTES>,
+    // the only byte so far of the word under way, as long as it waits to be put into `word`
+    begun: Option<u8>,
+}
+
+impl<L: Language> Model for Machine<L> {
+    ghost use Rattle.std.specs.Prelude.{reverse};
+    ghost use Rattle.reader.specs.State.{Held, held, state_of, Sound};
+
+    ghost Value = { Held };
+
+    ghost view = { λ m. held m.expects m.brackets.items m.inside m.word.items m.begun };
+
+    ghost invariant = { λ m. Sound L.Language.rules (state_of (held m.expects m.brackets.items m.inside m.word.items m.begun)) };
+}
+
+impl<L: Language> Machine<L> {
+    // A machine before the first byte.
+    pub(crate) fn new() -> Machine<L>
+        ensures place { result.place ≡ first_place L.Language.rules }
+        ensures inside { result.inside ≡ None }
+    {
+        Machine {
+            language: PhantomData,
+            expects: L::start(),
+            brackets: ArrayVec::new(),
+            inside: None,
+            word: ArrayVec::new(),
+            begun: None,
+        }
+    }
+
+    // The bytes collected last.
+    pub(crate) fn collected(&self) -> &[u8]
+        ensures { result.now ≡ self.now.bytes }
+    {
+        self.word.as_slice()
+    }
+
+    // How many brackets are open.
+    pub(crate) fn depth(&self) -> u32
+        ensures { result ≡ length self.now.place.brackets }
+    {
+        self.brackets.len() as u32
+    }
+
+    // Collects the byte that waits.
+    fn settle(&mut self)
+        ensures { self.new ≡ settled self.old }
+    {
+        if let Some(first) = self.begun {
+            self.word.clear();
+            self.word.push(first);
+            self.begun = None;
+        }
+    }
+}

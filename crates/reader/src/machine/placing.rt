@@ -1,0 +1,84 @@
+// Words at their place.
+ghost use Rattle.std.specs.Prelude.{◌≡◌, reverse, [], ◌∷◌, ◌++◌};
+ghost use Rattle.rules.specs.Rules.{innermost};
+ghost use Rattle.rules.specs.Machine.{no_brackets};
+ghost use Rattle.reader.specs.Pieces.{piece_at};
+ghost use Rattle.reader.specs.State.{expecting, Around};
+ghost use Rattle.reader.specs.Goes.{Gone, Collected};
+
+use crate::machine::Machine;
+use crate::piece::Piece;
+use crate::reader::{MOST_BYTES, MOST_OPEN};
+use arrayvec::ArrayVec;
+use grammar::refusal::Refusal;
+use rules::language::Language;
+use rules::place::{Bracket, Expects, Move, Spot};
+use rules::word::Inside;
+
+impl<L: Language> Machine<L> {
+    // The innermost open bracket.
+    fn innermost(&self) -> Option<Bracket>
+        ensures { result ≡ innermost self.now.place.brackets }
+    {
+        self.brackets.last().copied()
+    }
+
+    // What stands around a word with this first byte where this may come; none where it may not stand there.
+    pub(crate) fn piece(&self, expects: Expects, first: u8) -> Option<Piece>
+        ensures { result ≡ piece_at L.Language.rules (expecting expects self.now.place) first }
+    {
+        let spot = Spot {
+            expects,
+            innermost: self.innermost(),
+        };
+        let lead = L::lead(expects, first);
+        L::moves(spot, first).map(|step| Piece { lead, step })
+    }
+
+    // What stands around the word under way, which is collected: it may stand at its place.
+    pub(crate) fn around(&self, inside: Inside) -> Piece
+        requires under { self.now.inside ≡ Some inside }
+        requires settled { self.now.waiting ≡ None }
+        ensures { Around L.Language.rules self.now inside result }
+    {
+        let first = self.word.as_slice()[0];
+        self.piece(self.expects, first).unwrap()
+    }
+
+    // May a document end where this may come?
+    pub(crate) fn may_close(&self, expects: Expects) -> bool
+        ensures { result ≡ no_brackets L.Language.rules (expecting expects self.now.place) }
+    {
+        L::ends(expects) && self.brackets.is_empty()
+    }
+}
+
+// Opens or closes a bracket, as a word does, unless too many would be open.
+pub(crate) fn go(brackets: &mut ArrayVec<Bracket, MOST_OPEN>, step: Move) -> Result<(), Refusal>
+    ensures { Gone step (reverse brackets.old.items) (reverse brackets.new.items) result }
+{
+    let full = brackets.is_full();
+    match step {
+        Move::Within(_) => Ok(()),
+        Move::Opens(_) if full => Err(Refusal::ManyBrackets),
+        Move::Opens(bracket) => {
+            brackets.push(bracket);
+            Ok(())
+        }
+        Move::Closes => {
+            let _ = brackets.pop();
+            Ok(())
+        }
+    }
+}
+
+// Collects a byte, unless the word would be too long.
+pub(crate) fn collect(word: &mut ArrayVec<u8, MOST_BYTES>, byte: u8) -> Result<(), Refusal>
+    ensures { Collected word.old.items (word.old.items ++ byte ∷ []) word.new.items result }
+{
+    if word.is_full() {
+        return Err(Refusal::LongWord);
+    }
+    word.push(byte);
+    Ok(())
+}
