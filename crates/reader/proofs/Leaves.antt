@@ -1,18 +1,20 @@
 -- A word under way that is over: where it leaves the machine, and the tokens that stand for it.
 use Rattle.std.proofs.Common.{◌≡◌, ℕ, Bool, true, false, cond, ◌&&◌, List, [], ◌∷◌, ◌++◌, ◌<◌, length, get_or, Some, None, Option, sym, refl, ap, ◌∙◌, subst, arith}
+use Rattle.std.proofs.lemmas.List.{append-nil}
 use Rattle.std.proofs.lemmas.Bool.{and_from, cond-true}
 use Rattle.layout.specs.Tokens.{Token, Text}
-use Rattle.grammar.specs.Meaning.{Word, Answer, gives, refused}
+use Rattle.grammar.specs.Meaning.{Word, end, Answer, gives, refused}
 use Rattle.layout.specs.declared.token.Break.{Break as Lead}
 use Rattle.rules.specs.declared.word.Inside.{Inside}
-use Rattle.rules.specs.declared.word.Begin.TheVariants.{Starts}
+use Rattle.rules.specs.declared.word.Begin.{Begin}
+use Rattle.rules.specs.declared.word.Begin.TheVariants.{Sole, Starts}
 use Rattle.rules.specs.declared.word.Turn.TheVariants.{Closes as ClosesWord, Never as NeverTurns}
 use Rattle.rules.specs.declared.place.Bracket.{Bracket}
 use Rattle.rules.specs.declared.place.Expects.{Expects}
 use Rattle.rules.specs.declared.place.Move.{Move}
-use Rattle.rules.specs.declared.place.Move.TheVariants.{Within}
-use Rattle.rules.specs.Rules.{Rules, Place, moves_at, moved, placed, behind, behind_all, led, opened, closed, word_tokens, stand_for}
-use Rattle.rules.specs.Machine.{State, Step, on, dead, step, judged, between, ending, turned, low, short, all_short, all_low}
+use Rattle.rules.specs.declared.place.Move.TheVariants.{Within, Opens, Closes as ClosesBracket}
+use Rattle.rules.specs.Rules.{Rules, Place, moves_at, is_some, admits, moved, placed, behind, behind_all, led, opened, closed, word_tokens, stand_for}
+use Rattle.rules.specs.Machine.{State, Step, on, dead, step, judged, begun, between, ending, turned, low, short, all_short, all_low, no_brackets, reply}
 use Rattle.rules.specs.Lawful.{Lawful, Begun, first_byte, one_more, Reached}
 use Rattle.reading.specs.Accepts.{at}
 use Rattle.reading.proofs.Fit.{reached_behind}
@@ -21,12 +23,18 @@ use Rattle.reader.specs.declared.piece.Piece.{Piece}
 use Rattle.reader.specs.declared.over.Own.{Own}
 use Rattle.reader.specs.Pieces.{piece_for, piece_at, piece_of, piece_tokens, own_word, own_tokens}
 use Rattle.reader.specs.State.{Held, under_way, state_of, Sound, Around, expecting}
-use Rattle.reader.specs.Goes.{Went}
+use Rattle.reader.specs.Goes.{Went, Ended}
 
 -- what stands around a word says what it does
 piece_parts : (lead : Option Lead) (m : Option Move) (k : Piece) → piece_for lead m ≡ Some k → (m ≡ Some k.step) × (lead ≡ k.lead)
 piece_parts lead None k e = cc
 piece_parts lead (Some m) k e = (cc, cc)
+
+tokens_of_piece : (r : Rules) (p : Place) (b : ℕ) (w : Word) (k : Piece) → piece_at r p b ≡ Some k → word_tokens r p (b ∷ w) ≡ piece_tokens r k (b ∷ w)
+tokens_of_piece r p b w k e =
+    let m = piece_parts (r.lead p.expects b) (moves_at r p b) k e in
+    ap (λ (o : Option Move). led (r.lead p.expects b) ++ (opened r.block o ++ (Text (r.text (b ∷ w)) ∷ closed o))) m.0
+    ∙ ap (λ (o : Option Lead). led o ++ (opened r.block (Some k.step) ++ (Text (r.text (b ∷ w)) ∷ closed (Some k.step)))) m.1
 
 -- a word under way has begun, and so only changes what may come next
 abbrev StartsFirst : Rules → Word → Type 0
@@ -56,8 +64,7 @@ over_first r l p i b w v k h e =
     ap (λ (o : Option Move). placed o p) m.0 ∙ (ap (λ (n : Move). moved n p.brackets) x.1 ∙ sym (ap (λ (n : Move). expecting (moved n []).expects p) x.1)) in
     record {
       place = q;
-      tokens = ap (λ (o : Option Move). led (r.lead p.expects b) ++ (opened r.block o ++ (Text (r.text (b ∷ v)) ∷ closed o))) m.0
-          ∙ ap (λ (o : Option Lead). led o ++ (opened r.block (Some k.step) ++ (Text (r.text (b ∷ v)) ∷ closed (Some k.step)))) m.1;
+      tokens = tokens_of_piece r p b v k e;
       sound = record { fit = (tt, subst (Reached r) q (reached_behind r p i b w h.fit.0 h.fit.1)); shallow = h.shallow };
     }
 
@@ -78,6 +85,27 @@ closes r l p i (b ∷ w) c k h e t small =
     let lows = and_from (low (behind r p v)) true (ap low o.place ∙ h.shallow) refl in
     let answered = (went r s (on None [] (v ∷ [])) (goes r s (on None [] (v ∷ [])) refl (and_from (short v) true small refl) lows)).answered in
     record { stepped = stepped; place = sym o.place; answered = ap (judged r s) stepped ∙ (answered ∙ ap (λ (ts : List Token). gives (v ∷ []) (ts ++ [])) o.tokens) }
+
+-- a word of one byte
+moved_place : (p : Place) (m : Move) → moved m p.brackets ≡ record { expects = (moved m []).expects; brackets = (moved m p.brackets).brackets }
+moved_place p (Within e) = refl
+moved_place p (Opens b) = refl
+moved_place p ClosesBracket = refl
+
+pub sole : (r : Rules) (p : Place) (b : ℕ) (k : Piece) (ks : List Bracket) → r.begins b ≡ Sole → piece_at r p b ≡ Some k → ks ≡ (moved k.step p.brackets).brackets → low (moved k.step p.brackets) ≡ true
+    → Went r (at p None []) b (record { state = at (record { expects = (moved k.step []).expects; brackets = ks }) None []; ended = (b ∷ []) ∷ []; given = piece_tokens r k (b ∷ []) })
+sole r p b k ks e piece same few =
+    let s : State = at p None [] in
+    let ws : List Word = (b ∷ []) ∷ [] in
+    let m = piece_parts (r.lead p.expects b) (moves_at r p b) k piece in
+    let there : behind r p (b ∷ []) ≡ moved k.step p.brackets = ap (λ (o : Option Move). placed o p) m.0 in
+    let stepped : step r s b ≡ on None [] ws = ap (λ (x : Begin). begun (admits r p b) x b) e ∙ cond-true (admits r p b) (on None [] ws) dead (ap is_some m.0) in
+    let answered = (went r s (on None [] ws) (goes r s (on None [] ws) refl refl (and_from (low (behind r p (b ∷ []))) true (ap low there ∙ few) refl))).answered in
+    record {
+      stepped = stepped;
+      place = ap (λ (xs : List Bracket). record { expects = (moved k.step []).expects; brackets = xs }) same ∙ (sym (moved_place p k.step) ∙ sym there);
+      answered = ap (judged r s) stepped ∙ (answered ∙ ap (λ (ts : List Token). gives ws ts) (append-nil (word_tokens r p (b ∷ [])) ∙ tokens_of_piece r p b [] k piece));
+    }
 
 -- a word ended before what a step ends
 abbrev after_word : Word → List Token → Answer → Answer
@@ -144,3 +172,16 @@ pub leaves : (r : Rules) → Lawful r → (h : Held) (i : Inside) (k : Piece) (e
 leaves r l h i k e q u behind there =
     subst (λ (x : Expects). Sound r (at (expecting x q) None [])) (sym behind) (subst (λ (y : Place). Sound r (at (expecting (moved k.step []).expects y) None [])) (sym there)
     (over r l h.place i h.bytes k u.sound u.piece).sound)
+
+-- the end
+pub ends_word : (r : Rules) → Lawful r → (h : Held) (i : Inside) (k : Piece) (e : Expects) (q : Place) → Around r h i k → e ≡ (moved k.step []).expects → q ≡ h.place → (r.whole i h.bytes && no_brackets r (expecting e h.place)) ≡ true
+    → Ended r (state_of h) (record { state = at (expecting e q) None []; ended = h.bytes ∷ []; given = piece_tokens r k h.bytes ++ [] })
+ends_word r l h i k e q u behind_it there may =
+    let o = over r l h.place i h.bytes k u.sound u.piece in
+    let same : expecting e h.place ≡ behind r h.place h.bytes = ap (λ (x : Expects). expecting x h.place) behind_it ∙ sym o.place in
+    let done = sym (ap (λ (y : Place). r.whole i h.bytes && no_brackets r y) same) ∙ may in
+    let ws : List Word = h.bytes ∷ [] in
+    record {
+      state = ap (λ (y : Place). at (expecting e y) None []) there ∙ ap (λ (y : Place). at y None []) same;
+      answered = ap (λ (s : State). reply r s end) u.state ∙ (cond-true (r.whole i h.bytes && no_brackets r (behind r h.place h.bytes)) (gives ws (stand_for r h.place ws)) (refused 6) done ∙ ap (λ (ts : List Token). gives ws (ts ++ [])) o.tokens);
+    }

@@ -1,8 +1,7 @@
 -- What every machine keeps.
-use Rattle.std.proofs.Common.{◌≡◌, ℕ, true, ◌&&◌, List, [], ◌∷◌, refl, ap, subst, sym, ◌∙◌}
+use Rattle.std.proofs.Common.{◌≡◌, ℕ, true, List, [], ◌∷◌, refl, ap, subst, sym, ◌∙◌}
 use Rattle.std.proofs.lemmas.Bool.{and_parts}
-use Rattle.layout.specs.Tokens.{Token}
-use Rattle.grammar.specs.Meaning.{Word, gives, granted}
+use Rattle.grammar.specs.Meaning.{Word, granted}
 use Rattle.rules.specs.Rules.{Rules, Place, behind, behind_all}
 use Rattle.rules.specs.Machine.{State, Step, dead, on, step, next, judged, low, all_low, fresh}
 use Rattle.reading.specs.Accepts.{at}

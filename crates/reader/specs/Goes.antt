@@ -1,5 +1,5 @@
 -- How a reader goes on: by a bracket, by a byte more of a word, by a byte, by the end. What is refused leaves all as it was.
-use Rattle.std.specs.Prelude.{◌≡◌, ℕ, true, false, List, [], Some, None, Ok, Err, Option, Result}
+use Rattle.std.specs.Prelude.{◌≡◌, ℕ, true, false, List, [], None, Ok, Err, Option, Result}
 use Rattle.grammar.specs.declared.refusal.Refusal.{Refusal}
 use Rattle.grammar.specs.declared.refusal.Refusal.TheVariants.{LongWord, ManyBrackets}
 use Rattle.grammar.specs.Refusals.{number_of}

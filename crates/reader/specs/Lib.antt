@@ -1,4 +1,5 @@
 pub mod Pieces
 pub mod State
+pub mod Inside
 pub mod Goes
 pub mod Endings

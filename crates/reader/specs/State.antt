@@ -1,9 +1,8 @@
 -- What a reader holds, in the words of the machine that reads by the rules.
-use Rattle.std.specs.Prelude.{◌≡◌, ℕ, true, List, [], ◌∷◌, reverse, Some, None, Option}
+use Rattle.std.specs.Prelude.{◌≡◌, ℕ, true, List, [], ◌∷◌, Some, None, Option}
 use Rattle.layout.specs.Tokens.{Token}
 use Rattle.grammar.specs.Meaning.{Word}
 use Rattle.rules.specs.declared.word.Inside.{Inside}
-use Rattle.rules.specs.declared.place.Bracket.{Bracket}
 use Rattle.rules.specs.declared.place.Expects.{Expects}
 use Rattle.rules.specs.Rules.{Rules, Place}
 use Rattle.rules.specs.Machine.{State, low}
@@ -19,10 +18,6 @@ pub record Held : Type 0 where
   pub inside : Option Inside
   pub bytes : Word
   pub waiting : Option ℕ
-
--- the brackets as a machine keeps them, the innermost last
-abbrev pub held : Expects → List Bracket → Option Inside → Word → Option ℕ → Held
-held e ks io w waiting = record { place = record { expects = e; brackets = reverse ks }; inside = io; bytes = w; waiting = waiting }
 
 -- the same brackets, where this may come
 abbrev pub expecting : Expects → Place → Place

@@ -1,5 +1,5 @@
 // What is told of a word that ended.
-ghost use Rattle.std.specs.Prelude.{◌≡◌, not};
+ghost use Rattle.std.specs.Prelude.{◌≡◌, not, OnSome};
 ghost use Rattle.rules.specs.Rules.{loose};
 ghost use Rattle.reader.specs.Pieces.{own_word};
 ghost use Rattle.reader.specs.Endings.{described, described_at};
@@ -42,7 +42,8 @@ pub(crate) fn describe<L: Language>(word: &[u8]) -> Option<Ended>
 
 // What is told of the byte that is a word of its own, if there is one and this number is 0.
 pub(crate) fn describe_own<L: Language>(own: Option<Own>, number: u32) -> Option<Ended>
-    ensures { result ≡ described_at L.Language.rules (own_word own) number }
+    ensures told { result ≡ described_at L.Language.rules (own_word own) number }
+    ensures few { OnSome result (number ≡ 0) }
 {
     let own = own.filter(|_| number == 0)?;
     describe::<L>(slice::from_ref(&own.byte))

@@ -3,7 +3,6 @@
 // its place. What it refuses leaves that state as it was.
 ghost use Rattle.std.specs.Prelude.{◌≡◌, length};
 ghost use Rattle.rules.specs.Machine.{first_place};
-ghost use Rattle.reader.specs.State.{settled};
 
 use crate::reader::{MOST_BYTES, MOST_OPEN};
 use arrayvec::ArrayVec;
@@ -31,17 +30,20 @@ pub(crate) struct Machine<L: Language> {
 }
 
 impl<L: Language> Model for Machine<L> {
-    ghost use Rattle.std.specs.Prelude.{reverse};
-    ghost use Rattle.reader.specs.State.{Held, held, state_of, Sound};
+    ghost use Rattle.reader.specs.State.{Held, state_of, Sound};
 
     ghost Value = { Held };
 
-    ghost view = { λ m. held m.expects m.brackets.items m.inside m.word.items m.begun };
+    ghost use Rattle.reader.specs.Inside.{held_of};
 
-    ghost invariant = { λ m. Sound L.Language.rules (state_of (held m.expects m.brackets.items m.inside m.word.items m.begun)) };
+    ghost view = { held_of };
+
+    ghost invariant = { λ m. Sound L.Language.rules (state_of (held_of m)) };
 }
 
 impl<L: Language> Machine<L> {
+    ghost use Rattle.reader.specs.State.{settled};
+
     // A machine before the first byte.
     pub(crate) fn new() -> Machine<L>
         ensures place { result.place ≡ first_place L.Language.rules }

@@ -1,118 +1,116 @@
 -- What each step of a word reader leaves.
-use Rattle.std.proofs.Common.{◌≡◌, ℕ, suc, ◌+◌, ◌<◌, ◌≤◌, min, false, List, [], ◌∷◌, ◌++◌, length, get_or, drop, Some, None, Ok, sym, refl, ap, ◌∙◌, subst, arith}
-use Rattle.std.proofs.lemmas.List.{drop_more, drop_all}
-use Rattle.std.proofs.lemmas.Bool.{both_ways}
+use Rattle.std.proofs.Common.{◌≡◌, ℕ, suc, ◌+◌, ◌-◌, ◌<◌, ◌≤◌, nat_le, cond, not, List, [], ◌∷◌, ◌++◌, length, take, drop, Some, None, Ok, Err, Option, sym, refl, ap, ◌∙◌, subst, ⊎_elim, arith}
+use Rattle.std.proofs.lemmas.List.{append-nil, drop_more, drop_all}
+use Rattle.std.proofs.lemmas.Bool.{le-leb, lt-leb, cond-true, cond-false, cases_lt}
 use Rattle.grammar.specs.declared.refusal.Refusal.{Refusal}
 use Rattle.grammar.specs.Refusals.{number_of}
-use Rattle.grammar.specs.Meaning.{Word as Bytes, end, Answer, refused, gives}
-use Rattle.rules.specs.Rules.{Rules, Place}
-use Rattle.rules.specs.Machine.{State, step, next, judged, reply, means, fresh}
+use Rattle.grammar.specs.Meaning.{Word as Bytes, Answer}
+use Rattle.rules.specs.Rules.{Rules, loose}
+use Rattle.rules.specs.Machine.{State, step, next, means}
 use Rattle.rules.specs.Lawful.{Lawful}
-use Rattle.reading.specs.Accepts.{at}
 use Rattle.reading.specs.Places.{Placed, placed_at}
-use Rattle.reading.specs.Story.{Story, before, story, story_of, story_byte, story_end}
-use Rattle.reading.proofs.Fit.{Fit, fit_fresh}
-use Rattle.reader.specs.State.{Held, state_at, under_way, ended_by, given_by}
-use Rattle.reader.specs.Goes.{Went}
+use Rattle.reading.specs.Story.{Story, whole, broken, before, story, story_byte, story_end}
+use Rattle.reading.specs.Fit.{Fit}
+use Rattle.reader.specs.Endings.{described_at}
+use Rattle.reader.specs.State.{Reading}
+use Rattle.reader.specs.declared.ended.Ended.{Ended}
 use Rattle.words.specs.declared.fault.ReadFault.{ReadFault}
 use Rattle.words.specs.declared.word.Word.{Word}
-use Rattle.words.specs.declared.words.Stage.{Stage}
-use Rattle.words.specs.declared.words.Stage.TheVariants.{Reading, Ended, Broken}
-use Rattle.words.specs.Handed.{kind_of, placed_of, OfKind, Handed, FirstOf}
-use Rattle.words.specs.Left.{left_by, AllGood, SoundBy, IdleBy, is_reading, turns_by}
+use Rattle.words.specs.Handed.{kind_of, placed_of, OfKind, Handed, Takes}
+use Rattle.words.specs.Left.{rest, left_by, unread_by, LastBytes, AllGood, SoundBy, waiting}
+use Rattle.words.specs.declared.words.Words.TheInside.{Inside}
+use Rattle.words.specs.Inside.{waits, Sound}
+use Rattle.words.proofs.Waits.{First, first_waits, none_waits}
 use Rattle.words.proofs.Turns.{byte_turns, end_turns}
-use Rattle.words.proofs.Waits.{next_waits}
 
--- before the first byte
-pub new_left : (r : Rules) (text : List ℕ) (s : State) (ws : List Bytes) → s ≡ fresh r → ws ≡ [] → left_by r Reading text 0 s (placed_at r.kind 0 ws) ≡ story_of r text
-new_left r text s ws e f = ap (λ (vs : List Bytes). left_by r Reading text 0 s (placed_at r.kind 0 vs)) f ∙ ap (λ (x : State). left_by r Reading text 0 x []) e
+-- before the end, and behind it
+rest_before : (r : Rules) (text : List ℕ) (n : ℕ) (s : State) → n ≤ length text → rest r text n s ≡ story r.kind (means r s) n (drop n text)
+rest_before r text n s h = cond-true (nat_le n (length text)) (story r.kind (means r s) n (drop n text)) (record { told = []; close = whole }) (le-leb n (length text) h)
 
-pub new_sound : (r : Rules) (text : List ℕ) (s : State) (ws : List Bytes) → s ≡ fresh r → ws ≡ [] → SoundBy r Reading text 0 s (placed_at r.kind 0 ws)
-new_sound r text s ws e f =
-    subst (λ (vs : List Bytes). SoundBy r Reading text 0 s (placed_at r.kind 0 vs)) (sym f)
-    (subst (λ (x : State). SoundBy r Reading text 0 x []) (sym e) (fit_fresh r, ([], refl), tt))
+rest_behind : (r : Rules) (text : List ℕ) (n : ℕ) (s : State) → length text < n → rest r text n s ≡ record { told = []; close = whole }
+rest_behind r text n s h = cond-false (nat_le n (length text)) (story r.kind (means r s) n (drop n text)) (record { told = []; close = whole }) (lt-leb n (length text) h)
 
--- the story stays, and so does the rest
-abbrev pub Stays : Rules → Stage → List ℕ → ℕ → State → List Placed → Stage → ℕ → State → List Placed → Type 0
-Stays r st text k s waiting st' k' s' waiting' = (left_by r st' text k' s' waiting' ≡ left_by r st text k s waiting) × SoundBy r st' text k' s' waiting'
-
-nothing_waits : (waiting : List Placed) (s : Story) → waiting ≡ [] → s ≡ before waiting s
-nothing_waits waiting s e = sym (ap (λ (xs : List Placed). before xs s) e)
-
--- the end
-pub end_stays : (r : Rules) → Lawful r → (st : Stage) (text : List ℕ) (k : ℕ) (s s' : State) (waiting : List Placed) (h' : Held) → length text ≤ k → k ≤ length text → SoundBy r st text k s waiting → IdleBy st waiting → (Fit r s → reply r s end ≡ gives (ended_by h') (given_by r h'))
-    → Stays r st text k s waiting Ended k s' (placed_at r.kind k (ended_by h'))
-end_stays r l Reading text k s s' waiting h' n m sound idle a =
-    let e = end_turns r l text k s (ended_by h') (given_by r h') n m sound.0 sound.1 (a sound.0) in
-    (sym e.0 ∙ nothing_waits waiting (story r.kind (means r s) k (drop k text)) idle, e.1)
-end_stays r l Ended text k s s' waiting h' n m sound idle a = absurd idle
-end_stays r l (Broken f) text k s s' waiting h' n m sound idle a = absurd idle
-
-pub end_breaks : (r : Rules) (st : Stage) (text : List ℕ) (k : ℕ) (e : Refusal) (s s' : State) (waiting waiting' : List Placed) → length text ≤ k → SoundBy r st text k s waiting → IdleBy st waiting → (Fit r s → reply r s end ≡ refused (number_of e))
-    → Stays r st text k s waiting (Broken (record { refusal = e; place = k })) k s' waiting'
-end_breaks r Reading text k e s s' waiting waiting' h sound idle a =
-    (sym (ap (story r.kind (means r s) k) (drop_all k text h) ∙ ap (story_end r.kind k) (a sound.0)) ∙ nothing_waits waiting (story r.kind (means r s) k (drop k text)) idle, tt)
-end_breaks r Ended text k e s s' waiting waiting' h sound idle a = absurd idle
-end_breaks r (Broken f) text k e s s' waiting waiting' h sound idle a = absurd idle
-
--- a byte
-pub byte_stays : (r : Rules) → Lawful r → (st : Stage) (text : List ℕ) (k b : ℕ) (s : State) (waiting : List Placed) (h' : Held) (q : Place) → k < length text → b ≡ get_or text k 0 → SoundBy r st text k s waiting → IdleBy st waiting → (Fit r s → Went r s b h' q)
-    → Stays r st text k s waiting st (k + 1) (state_at h' q) (placed_at r.kind k (ended_by h'))
-byte_stays r l Reading text k b s waiting h' q n e sound idle a =
-    let w = a sound.0 in
-    let v : Bytes = under_way h'.inside h'.waiting h'.bytes in
-    let same : next r s (step r s b) ≡ state_at h' q = ap (next r s) w.stepped ∙ ap (λ (p : Place). at p h'.inside v) (sym w.place) in
-    let t = byte_turns r l text k b s h'.inside v (ended_by h') (given_by r h') n e sound.0 sound.1 w.stepped w.answered in
-    let ps : List Placed = placed_at r.kind k (ended_by h') in
-    subst (λ (x : State). Stays r Reading text k s waiting Reading (k + 1) x ps) same
-    (sym t.same ∙ nothing_waits waiting (story r.kind (means r s) k (drop k text)) idle, (t.fits, t.last, t.parts))
-byte_stays r l Ended text k b s waiting h' q n e sound idle a = absurd idle
-byte_stays r l (Broken f) text k b s waiting h' q n e sound idle a = absurd idle
-
-pub byte_breaks : (r : Rules) (st : Stage) (text : List ℕ) (k b : ℕ) (d : Refusal) (s s' : State) (waiting waiting' : List Placed) → k < length text → b ≡ get_or text k 0 → SoundBy r st text k s waiting → IdleBy st waiting → (Fit r s → judged r s (step r s b) ≡ refused (number_of d))
-    → Stays r st text k s waiting (Broken (record { refusal = d; place = k })) k s' waiting'
-byte_breaks r Reading text k b d s s' waiting waiting' h e sound idle a =
-    let rest : List ℕ = drop (k + 1) text in
-    let cut : drop k text ≡ b ∷ rest = drop_more text k 0 h ∙ ap (λ (x : ℕ). x ∷ rest) (sym e) in
-    (sym (ap (story r.kind (means r s) k) cut ∙ ap (λ (x : Answer). story_byte r.kind k x (story r.kind (means r (next r s (step r s b))) (suc k) rest)) (a sound.0)) ∙ nothing_waits waiting (story r.kind (means r s) k (drop k text)) idle, tt)
-byte_breaks r Ended text k b d s s' waiting waiting' h e sound idle a = absurd idle
-byte_breaks r (Broken f) text k b d s s' waiting waiting' h e sound idle a = absurd idle
-
--- each turn leaves fewer
-pub fewer_ended : (st : Stage) (text : List ℕ) (k : ℕ) → st ≡ Reading → 0 < turns_by st text k
-fewer_ended Reading text k e = omega arith
-fewer_ended Ended text k e = absurd (both_ways false refl (ap is_reading e))
-fewer_ended (Broken f) text k e = absurd (both_ways false refl (ap is_reading e))
-
-pub fewer_byte : (st : Stage) (text : List ℕ) (k : ℕ) → k < length text → st ≡ Reading → turns_by st text (k + 1) < turns_by st text k
-fewer_byte Reading text k h e = omega arith
-fewer_byte Ended text k h e = absurd (both_ways false refl (ap is_reading e))
-fewer_byte (Broken f) text k h e = absurd (both_ways false refl (ap is_reading e))
+before_none : (ws : List Placed) (s : Story) → ws ≡ [] → before ws s ≡ s
+before_none ws s e = ap (λ (xs : List Placed). before xs s) e
 
 -- handing out the first word that waits, and telling that none is left
-pub hands_word : (r : Rules) (st : Stage) (text : List ℕ) (k : ℕ) (s : State) (waiting waiting' : List Placed) (w : Word) → ((f : ReadFault) → st ≡ Broken f → ⊥) → waiting ≡ placed_of w ∷ waiting' → OfKind r (placed_of w).word (kind_of w) → SoundBy r st text k s waiting
-    → Handed r (left_by r st text k s waiting) (left_by r st text k s waiting') (Some (Ok w)) × SoundBy r st text k s waiting'
-hands_word r Reading text k s waiting waiting' w ok e kind sound =
-    ((ap (λ (xs : List Placed). xs ++ (story r.kind (means r s) k (drop k text)).told) e, refl, kind), (sound.0, sound.1, (subst (AllGood text) e sound.2).2))
-hands_word r Ended text k s waiting waiting' w ok e kind sound = ((e, refl, kind), (subst (AllGood text) e sound).2)
-hands_word r (Broken f) text k s waiting waiting' w ok e kind sound = absurd (ok f refl)
+pub hands_word : (r : Rules) (fault : Option ReadFault) (text : List ℕ) (n : ℕ) (s : State) (ws : List Bytes) (m : ℕ) (e : Ended) (place : ℕ) (w : Word) → fault ≡ None → First r text n ws m e place
+    → kind_of w ≡ e.kind → placed_of w ≡ record { place = place; word = take ((place + e.len) - place) (drop place text) } → Handed r (left_by r fault text n s (waiting r n ws m)) (left_by r fault text n s (waiting r n ws (m + 1))) (Some (Ok w))
+hands_word r (Some f) text n s ws m e place w ok first kind placed = cc
+hands_word r None text n s ws m e place w ok first kind placed =
+    let part : placed_of w ≡ record { place = place; word = take e.len (drop place text) } = placed ∙ ap (λ (k : ℕ). record { place = place; word = take k (drop place text) }) (omega arith) in
+    let same : waiting r n ws m ≡ placed_of w ∷ waiting r n ws (m + 1) = first.waits ∙ ap (λ (x : Placed). x ∷ waiting r n ws (m + 1)) (sym part) in (
+      ap (λ (xs : List Placed). xs ++ (rest r text n s).told) same,
+      refl,
+      subst (λ (x : Placed). OfKind r x.word (kind_of w)) (sym part) (subst (OfKind r (take e.len (drop place text))) (sym kind) first.kind),
+    )
 
-pub hands_none : (r : Rules) (st : Stage) (text : List ℕ) (k : ℕ) (s : State) (waiting : List Placed) → ((f : ReadFault) → st ≡ Broken f → ⊥) → waiting ≡ [] → (IdleBy st waiting → ⊥) → SoundBy r st text k s waiting
-    → Handed r (left_by r st text k s waiting) (left_by r st text k s waiting) None × SoundBy r st text k s waiting
-hands_none r Reading text k s waiting ok e idle sound = absurd (idle e)
-hands_none r Ended text k s waiting ok e idle sound = ((e, refl, refl), sound)
-hands_none r (Broken f) text k s waiting ok e idle sound = absurd (ok f refl)
+pub hands_none : (r : Rules) (fault : Option ReadFault) (text : List ℕ) (n : ℕ) (s : State) (ws : List Placed) → fault ≡ None → length text < n → ws ≡ []
+    → Handed r (left_by r fault text n s ws) (left_by r fault text n s ws) None
+hands_none r None text n s ws ok h e =
+    let left = before_none ws (rest r text n s) e ∙ rest_behind r text n s h in
+    (ap (λ (x : Story). x.told) left, ap (λ (x : Story). x.close) left, refl)
+hands_none r (Some f) text n s ws ok h e = cc
 
-sound_good : (r : Rules) (st : Stage) (text : List ℕ) (k : ℕ) (s : State) (waiting : List Placed) → ((f : ReadFault) → st ≡ Broken f → ⊥) → SoundBy r st text k s waiting → AllGood text waiting
-sound_good r Reading text k s waiting ok sound = sound.2
-sound_good r Ended text k s waiting ok sound = sound
-sound_good r (Broken f) text k s waiting ok sound = absurd (ok f refl)
+-- a byte is taken, or the end
+pub record Stays (r : Rules) (fault : Option ReadFault) (text : List ℕ) (n : ℕ) (s : State) (ws : List Placed) (v : Reading) : Type 0 where
+  pub left : left_by r fault text (n + 1) v.state (waiting r (n + 1) v.ended 0) ≡ left_by r fault text n s ws
+  pub sound : SoundBy r fault text (n + 1) v.state (waiting r (n + 1) v.ended 0)
 
-pub hands_first : (r : Rules) (st : Stage) (text : List ℕ) (k last : ℕ) (s : State) (ws : List Bytes) (n m : ℕ) (w : Word) → ((f : ReadFault) → st ≡ Broken f → ⊥) → length ws ≤ 2 → m ≡ min (n + 1) 4294967295
-    → (AllGood text (placed_at r.kind last (drop n ws)) → FirstOf r (placed_at r.kind last (drop n ws)) (Some w)) → SoundBy r st text k s (placed_at r.kind last (drop n ws))
-    → Handed r (left_by r st text k s (placed_at r.kind last (drop n ws))) (left_by r st text k s (placed_at r.kind last (drop m ws))) (Some (Ok w)) × SoundBy r st text k s (placed_at r.kind last (drop m ws))
-hands_first r st text k last s ws n m w ok few e first sound =
-    let waiting : List Placed = placed_at r.kind last (drop n ws) in
-    let f = first (sound_good r st text k s waiting ok sound) in
-    let same = next_waits r last ws n m (placed_of w) f.0 few e f.1 in
-    hands_word r st text k s waiting (placed_at r.kind last (drop m ws)) w ok (f.1 ∙ ap (λ (xs : List Placed). placed_of w ∷ xs) (sym same)) f.2 sound
+last_of : (n : ℕ) → (n + 1) - 1 ≡ n
+last_of n = omega arith
+
+-- the words that wait behind it, and the story that is left
+stays : (r : Rules) (text : List ℕ) (n : ℕ) (s : State) (ws : List Placed) (v : Reading) → n ≤ length text → ws ≡ [] → story r.kind (means r s) n (drop n text) ≡ before (placed_at r.kind n v.ended) (rest r text (n + 1) v.state)
+    → (n + 1 ≤ length text → Fit r v.state × LastBytes v.state.word (take (n + 1) text)) → AllGood text (placed_at r.kind n v.ended) → Stays r None text n s ws v
+stays r text n s ws v h e same fits parts =
+    let more : ℕ → List Placed = λ k. placed_at r.kind k v.ended in
+    record {
+      left = ap (λ (k : ℕ). before (more k) (rest r text (n + 1) v.state)) (last_of n) ∙ (sym same ∙ (sym (rest_before r text n s h) ∙ sym (before_none ws (rest r text n s) e)));
+      sound = (fits, subst (λ (k : ℕ). AllGood text (more k)) (sym (last_of n)) parts);
+    }
+
+at_byte : (r : Rules) → Lawful r → (text : List ℕ) (n : ℕ) (s : State) (ws : List Placed) (v : Reading) → n < length text → ws ≡ [] → SoundBy r None text n s ws → Takes r s (drop n text) v (Ok tt) → Stays r None text n s ws v
+at_byte r l text n s ws v h e sound t =
+    let w = subst (λ (xs : List ℕ). Takes r s xs v (Ok tt)) (drop_more text n 0 h) t in
+    let f = sound.0 (omega arith) in
+    let u = byte_turns r l text n s v h f.0 f.1 w in
+    stays r text n s ws v (omega arith) e (u.same ∙ ap (before (placed_at r.kind n v.ended)) (sym (rest_before r text (n + 1) v.state (omega arith)))) (λ k. (u.fits, u.last)) u.parts
+
+at_end : (r : Rules) → Lawful r → (text : List ℕ) (n : ℕ) (s : State) (ws : List Placed) (v : Reading) → length text ≤ n → n ≤ length text → ws ≡ [] → SoundBy r None text n s ws → Takes r s (drop n text) v (Ok tt) → Stays r None text n s ws v
+at_end r l text n s ws v h m e sound t =
+    let w = subst (λ (xs : List ℕ). Takes r s xs v (Ok tt)) (drop_all n text h) t in
+    let f = sound.0 m in
+    let u = end_turns r l text n s v.ended v.given h m f.0 f.1 w.answered in
+    let there = ap (before (placed_at r.kind n v.ended)) (rest_behind r text (n + 1) v.state (omega arith)) in
+    stays r text n s ws v m e (u.0 ∙ (ap (λ (xs : List Placed). record { told = xs; close = whole }) (sym (append-nil (placed_at r.kind n v.ended))) ∙ sym there)) (λ k. absurd (omega arith)) u.1
+
+pub taken : (r : Rules) → Lawful r → (fault : Option ReadFault) (text : List ℕ) (n : ℕ) (s : State) (ws : List Placed) (v : Reading) → fault ≡ None → n ≤ length text → ws ≡ [] → SoundBy r fault text n s ws → Takes r s (drop n text) v (Ok tt) → Stays r fault text n s ws v
+taken r l (Some f) text n s ws v ok h e sound t = cc
+taken r l None text n s ws v ok h e sound t = ⊎_elim (λ k. at_byte r l text n s ws v k e sound t) (λ k. at_end r l text n s ws v k h e sound t) (cases_lt n (length text))
+
+-- or refused
+refused_by : (r : Rules) (s : State) (n : ℕ) (xs : List ℕ) (v : Reading) (d : Refusal) → Takes r s xs v (Err d) → story r.kind (means r s) n xs ≡ record { told = []; close = broken (number_of d) n }
+refused_by r s n [] v d t = ap (story_end r.kind n) t.0
+refused_by r s n (b ∷ xs) v d t = ap (λ (x : Answer). story_byte r.kind n x (story r.kind (means r (next r s (step r s b))) (suc n) xs)) t.0
+
+pub breaks : (r : Rules) (fault : Option ReadFault) (text : List ℕ) (n : ℕ) (s s' : State) (ws ws' : List Placed) (v : Reading) (d : Refusal) → fault ≡ None → n ≤ length text → ws ≡ [] → Takes r s (drop n text) v (Err d)
+    → left_by r (Some (record { refusal = d; place = n })) text n s' ws' ≡ left_by r fault text n s ws
+breaks r (Some f) text n s s' ws ws' v d ok h e t = cc
+breaks r None text n s s' ws ws' v d ok h e t = sym (before_none ws (rest r text n s) e ∙ (rest_before r text n s h ∙ refused_by r s n (drop n text) v d t))
+
+pub fewer : (fault : Option ReadFault) (text : List ℕ) (n : ℕ) → fault ≡ None → n ≤ length text → (unread_by fault text (n + 1) < unread_by fault text n) × (0 < unread_by fault text n)
+fewer None text n ok h = (omega arith, omega arith)
+fewer (Some f) text n ok h = cc
+
+-- of a word reader that no refusal has ended: the first word that waits, and that none does
+good : (r : Rules) (fault : Option ReadFault) (text : List ℕ) (n : ℕ) (s : State) (ws : List Placed) → fault ≡ None → SoundBy r fault text n s ws → AllGood text ws
+good r None text n s ws ok sound = sound.1
+good r (Some f) text n s ws ok sound = cc
+
+pub first : {L : Type 0} (r : Rules) (v : Inside L) (o : Option Ended) (e : Ended) (place : ℕ) → Sound r v → v.fault ≡ None → o ≡ described_at r v.reader.ended v.handed → o ≡ Some e → place ≡ cond (not (loose e.kind)) v.taken (v.taken - 1) - e.len
+    → First r v.text.now v.taken v.reader.ended v.handed e place
+first r v o e place sound ok told is at_it = first_waits r v.text.now v.taken v.reader.ended v.handed e place (sym told ∙ is) (good r v.fault v.text.now v.taken v.reader.state (waits r v) ok sound) at_it
+
+pub none : {L : Type 0} (r : Rules) (v : Inside L) (o : Option Ended) → Sound r v → v.fault ≡ None → o ≡ described_at r v.reader.ended v.handed → o ≡ None → waits r v ≡ []
+none r v o sound ok told is = none_waits r v.text.now (v.taken - 1) v.reader.ended v.handed (sym told ∙ is) (good r v.fault v.text.now v.taken v.reader.state (waits r v) ok sound)

@@ -1,4 +1,3 @@
 pub mod Turns
 pub mod Waits
 pub mod Lefts
-pub mod Parts

@@ -1,21 +1,23 @@
 -- A byte of the text, or its end, leaves the story as it was.
-use Rattle.std.proofs.Common.{◌≡◌, ℕ, suc, ◌+◌, ◌<◌, ◌≤◌, Bool, true, false, cond, List, [], ◌∷◌, ◌++◌, length, get_or, take, drop, Option, sym, refl, ap, ◌∙◌, subst, arith}
+use Rattle.std.proofs.Common.{◌≡◌, ℕ, suc, ◌+◌, ◌<◌, ◌≤◌, Bool, true, false, cond, List, [], ◌∷◌, ◌++◌, length, get_or, take, drop, sym, refl, ap, ◌∙◌, subst, arith, add-one}
 use Rattle.std.proofs.lemmas.List.{append-nil, length-take, take_more, drop_more, take_all, drop_all, take-append-drop}
 use Rattle.std.proofs.lemmas.Bool.{both_ways}
 use Rattle.layout.specs.Tokens.{Token}
 use Rattle.grammar.specs.Meaning.{Word as Bytes, end, Answer, refused, gives, granted, words_of}
-use Rattle.rules.specs.declared.word.Inside.{Inside}
 use Rattle.rules.specs.Rules.{Rules, stand_for}
-use Rattle.rules.specs.Machine.{State, Step, on, step, next, judged, reply, means, pending, finished}
+use Rattle.rules.specs.Machine.{State, step, next, reply, means, pending, finished}
 use Rattle.rules.specs.Lawful.{Lawful}
 use Rattle.reading.specs.Places.{placed_at}
 use Rattle.reading.specs.Accepts.{step_words}
-use Rattle.reading.specs.Story.{whole, before, story, story_byte, story_end, AllParts}
+use Rattle.reading.specs.Story.{Story, whole, before, story, story_byte, story_end, AllParts}
 use Rattle.reading.proofs.Fit.{Fit, fit_next}
 use Rattle.reading.proofs.Steps.{step_word}
 use Rattle.reading.proofs.Tokens.{PlainWords}
 use Rattle.reading.proofs.Shows.{plain_stepped, plain_pending}
 use Rattle.reading.proofs.Stories.{parts_stepped, parts_end}
+use Rattle.reader.specs.State.{Reading}
+use Rattle.reader.specs.Goes.{Went}
+use Rattle.reader.proofs.Sound.{next_state}
 use Rattle.words.specs.Left.{LastBytes, AllGood}
 
 -- words with bytes that are parts of the text
@@ -24,31 +26,31 @@ good r text k [] plain parts = tt
 good r text k (w ∷ ws) plain parts = (plain.0.0, parts.0, good r text k ws plain.1 parts.1)
 
 -- what a byte leaves
-pub record Turned (r : Rules) (text : List ℕ) (at : ℕ) (s s' : State) (ws : List Bytes) : Type 0 where
-  pub same : story r.kind (means r s) at (drop at text) ≡ before (placed_at r.kind at ws) (story r.kind (means r s') (at + 1) (drop (at + 1) text))
-  pub fits : Fit r s'
-  pub last : LastBytes s'.word (take (at + 1) text)
-  pub parts : AllGood text (placed_at r.kind at ws)
+pub record Turned (r : Rules) (text : List ℕ) (n : ℕ) (s : State) (v : Reading) : Type 0 where
+  pub same : story r.kind (means r s) n (drop n text) ≡ before (placed_at r.kind n v.ended) (story r.kind (means r v.state) (n + 1) (drop (n + 1) text))
+  pub fits : Fit r v.state
+  pub last : LastBytes v.state.word (take (n + 1) text)
+  pub parts : AllGood text (placed_at r.kind n v.ended)
 
-pub byte_turns : (r : Rules) → Lawful r → (text : List ℕ) (at b : ℕ) (s : State) (io : Option Inside) (v : Bytes) (ws : List Bytes) (ts : List Token) → at < length text → b ≡ get_or text at 0 → Fit r s → LastBytes s.word (take at text)
-    → step r s b ≡ on io v ws → judged r s (step r s b) ≡ gives ws ts → Turned r text at s (next r s (step r s b)) ws
-byte_turns r l text at b s io v ws ts h e f t st a =
-    let s' : State = next r s (step r s b) in
-    let rest : List ℕ = drop (at + 1) text in
-    let cut : drop at text ≡ b ∷ rest = drop_more text at 0 h ∙ ap (λ (x : ℕ). x ∷ rest) (sym e) in
-    let long : length (take at text) ≡ at = omega (arith, length-take at text) in
-    let whole : take at text ++ b ∷ rest ≡ text = ap (λ (xs : List ℕ). take at text ++ xs) (sym cut) ∙ take-append-drop at text in
-    let p = parts_stepped r l (take at text) rest at b s.place s.inside s.word f.0 t long in
-    let words : step_words (step r s b) ≡ ws = ap step_words st in
+pub byte_turns : (r : Rules) → Lawful r → (text : List ℕ) (n : ℕ) (s : State) (v : Reading) → n < length text → Fit r s → LastBytes s.word (take n text) → Went r s (get_or text n 0) v → Turned r text n s v
+byte_turns r l text n s v h f t w =
+    let b = get_or text n 0 in
+    let rest : List ℕ = drop (n + 1) text in
+    let left : ℕ → State → Story = λ k x. story r.kind (means r x) k rest in
+    let cut : drop n text ≡ b ∷ rest = drop_more text n 0 h in
+    let long : length (take n text) ≡ n = omega (arith, length-take n text) in
+    let whole : take n text ++ b ∷ rest ≡ text = ap (λ (xs : List ℕ). take n text ++ xs) (sym cut) ∙ take-append-drop n text in
+    let p = parts_stepped r l (take n text) rest n b s.place s.inside s.word f.0 t long in
+    let words : step_words (step r s b) ≡ v.ended = ap step_words w.stepped in
+    let next_is = next_state r s b v w in
     record {
-      same = ap (story r.kind (means r s) at) cut
-          ∙ (ap (λ (x : Answer). story_byte r.kind at x (story r.kind (means r s') (suc at) rest)) a
-          ∙ ap (λ (n : ℕ). before (placed_at r.kind at ws) (story r.kind (means r s') n rest)) (omega arith));
-      fits = fit_next r s b f;
-      last = subst (λ (xs : List ℕ). LastBytes s'.word xs) (ap (λ (x : ℕ). take at text ++ x ∷ []) e ∙ sym (take_more text at 0 h))
-          (subst (λ (w : Bytes). LastBytes w (take at text ++ b ∷ [])) (ap step_word st ∙ sym (ap (λ (x : Step). (next r s x).word) st)) p.1);
-      parts = good r text at ws (subst PlainWords words (plain_stepped r l s.place s.inside s.word b f.0))
-          (subst (λ (xs : List Bytes). AllParts text (placed_at r.kind at xs)) words (subst (λ (xs : List ℕ). AllParts xs (placed_at r.kind at (step_words (step r s b)))) whole p.0));
+      same = ap (story r.kind (means r s) n) cut
+          ∙ (ap (λ (x : Answer). story_byte r.kind n x (left (suc n) (next r s (step r s b)))) w.answered
+          ∙ (ap (λ (x : State). before (placed_at r.kind n v.ended) (left (suc n) x)) next_is ∙ ap (λ (k : ℕ). before (placed_at r.kind n v.ended) (left k v.state)) (sym (add-one n))));
+      fits = subst (Fit r) next_is (fit_next r s b f);
+      last = subst (λ (xs : List ℕ). LastBytes v.state.word xs) (sym (take_more text n 0 h)) (subst (λ (u : Bytes). LastBytes u (take n text ++ b ∷ [])) (ap step_word w.stepped) p.1);
+      parts = good r text n v.ended (subst PlainWords words (plain_stepped r l s.place s.inside s.word b f.0))
+          (subst (λ (xs : List Bytes). AllParts text (placed_at r.kind n xs)) words (subst (λ (xs : List ℕ). AllParts xs (placed_at r.kind n (step_words (step r s b)))) whole p.0));
     }
 
 -- the words that the end gives

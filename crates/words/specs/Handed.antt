@@ -1,14 +1,21 @@
 -- What is handed out: a word by its kind, a refusal, or nothing.
-use Rattle.std.specs.Prelude.{◌≡◌, List, [], ◌∷◌, Some, None, Ok, Err, Option, Result}
+use Rattle.std.specs.Prelude.{◌≡◌, ℕ, List, [], ◌∷◌, ◌<◌, Some, None, Ok, Err, Option, Result}
+use Rattle.std.specs.declared.ops.ControlFlow.{ControlFlow}
+use Rattle.std.specs.declared.ops.ControlFlow.TheVariants.{Continue, Break}
+use Rattle.grammar.specs.declared.refusal.Refusal.{Refusal}
 use Rattle.grammar.specs.Refusals.{number_of}
 use Rattle.grammar.specs.Meaning.{Word as Bytes}
 use Rattle.rules.specs.declared.word.Kind.{Kind}
 use Rattle.rules.specs.declared.word.Kind.TheVariants.{Opening, Closing, Comma, Colon, Text, Number, Literal, Atom}
 use Rattle.rules.specs.Rules.{Rules}
+use Rattle.rules.specs.Machine.{State}
 use Rattle.reading.specs.Places.{Placed}
 use Rattle.reading.specs.Story.{Story, whole, broken}
 use Rattle.words.specs.declared.fault.ReadFault.{ReadFault}
 use Rattle.words.specs.declared.word.Word.{Word}
+use Rattle.reader.specs.State.{Reading}
+use Rattle.reader.specs.Goes.{Steps, Finishes}
+use Rattle.words.specs.Left.{Telling}
 use Rattle.words.specs.declared.word.Word.TheVariants.{Opening as OpeningWord, Closing as ClosingWord, Comma as CommaWord, Colon as ColonWord, Text as TextWord, Number as NumberWord, Literal as LiteralWord, Atom as AtomWord}
 
 -- the kind of each case
@@ -45,7 +52,12 @@ Handed r s s' None = (s.told ≡ []) × (s.close ≡ whole) × (s' ≡ s)
 Handed r s s' (Some (Err f)) = (s.told ≡ []) × (s.close ≡ broken (number_of f.refusal) f.place) × (s' ≡ s)
 Handed r s s' (Some (Ok w)) = (s.told ≡ placed_of w ∷ s'.told) × (s'.close ≡ s.close) × OfKind r (placed_of w).word (kind_of w)
 
--- the first of the words that wait, if any
-abbrev pub FirstOf : Rules → List Placed → Option Word → Type 0
-FirstOf r ws None = ws ≡ []
-FirstOf r ws (Some w) = (rest : List Placed) × (ws ≡ placed_of w ∷ rest) × OfKind r (placed_of w).word (kind_of w)
+-- what the reader answers to the bytes still to come: to the first of them, or to the end
+abbrev pub Takes : Rules → State → List ℕ → Reading → Result (Unit {0}) Refusal → Type 0
+Takes r s [] v answer = Finishes r s v answer
+Takes r s (b ∷ bs) v answer = Steps r s b v answer
+
+-- A step of the reading: something is handed out, or the same story is left and less is left to read.
+abbrev pub Advanced : Rules → Telling → Telling → ControlFlow (Option (Result Word ReadFault)) (Unit {0}) → Type 0
+Advanced r v w (Continue done) = (w.left ≡ v.left) × (w.unread < v.unread)
+Advanced r v w (Break item) = Handed r v.left w.left item

@@ -1,29 +1,37 @@
 -- What a word reader has still to hand out.
-use Rattle.std.specs.Prelude.{◌≡◌, ℕ, suc, ◌-◌, ◌<◌, Bool, true, false, List, [], ◌∷◌, ◌++◌, length, take, drop}
+use Rattle.std.specs.Prelude.{◌≡◌, ℕ, suc, ◌-◌, ◌<◌, ◌≤◌, cond, nat_le, List, [], ◌∷◌, ◌++◌, length, take, drop, Some, None, Option}
+use Rattle.std.specs.Iterator.{Count, at_most, endless}
 use Rattle.grammar.specs.Refusals.{number_of}
 use Rattle.grammar.specs.Meaning.{Word as Bytes}
 use Rattle.rules.specs.Rules.{Rules}
 use Rattle.rules.specs.Machine.{State, means}
 use Rattle.reading.specs.Places.{Placed, placed_at}
-use Rattle.reading.specs.Story.{Story, whole, broken, before, story}
+use Rattle.reading.specs.Story.{Close, whole, broken, Story, before, story}
 use Rattle.reading.specs.Fit.{Fit}
-use Rattle.reader.specs.State.{held_of, state_of, ended_by}
-use Rattle.words.specs.declared.words.Stage.{Stage}
-use Rattle.words.specs.declared.words.Stage.TheVariants.{Reading, Ended, Broken}
-use Rattle.words.specs.declared.words.Words.{Words}
+use Rattle.words.specs.declared.fault.ReadFault.{ReadFault}
 
--- behind the words that wait: what the bytes not yet read will tell, or how the reading ended
-abbrev pub left_by : Rules → Stage → List ℕ → ℕ → State → List Placed → Story
-left_by r Reading text at s waiting = before waiting (story r.kind (means r s) at (drop at text))
-left_by r Ended text at s waiting = record { told = waiting; close = whole }
-left_by r (Broken f) text at s waiting = record { told = []; close = broken (number_of f.refusal) f.place }
+-- A word reader, as its callers see it: its text; what is left to hand out; how often it can read on at most.
+pub record Telling : Type 0 where
+  pub text : List ℕ
+  pub left : Story
+  pub unread : ℕ
 
--- the words that wait: those of the last byte, or of the end, that have not been handed out
-abbrev pub waiting_of : {L : Type 0} → Rules → Words L → List Placed
-waiting_of r v = placed_at r.kind v.last (drop v.handed (ended_by (held_of v.reader)))
+-- the words that wait: those that the last of n bytes, or the end, has ended, but for those handed out
+abbrev pub waiting : Rules → ℕ → List Bytes → ℕ → List Placed
+waiting r n ws handed = placed_at r.kind (n - 1) (drop handed ws)
 
-abbrev pub left : {L : Type 0} → Rules → Words L → Story
-left r v = left_by r v.stage v.text.now v.at (state_of v.reader) (waiting_of r v)
+-- what the bytes not yet taken will tell; the end is taken behind them as one more
+abbrev pub rest : Rules → List ℕ → ℕ → State → Story
+rest r text n s = cond (nat_le n (length text)) (story r.kind (means r s) n (drop n text)) (record { told = []; close = whole })
+
+-- behind the words that wait; or the refusal that ended the reading
+abbrev pub left_by : Rules → Option ReadFault → List ℕ → ℕ → State → List Placed → Story
+left_by r None text n s ws = before ws (rest r text n s)
+left_by r (Some f) text n s ws = record { told = []; close = broken (number_of f.refusal) f.place }
+
+abbrev pub unread_by : Option ReadFault → List ℕ → ℕ → ℕ
+unread_by None text n = suc (length text) - n
+unread_by (Some f) text n = 0
 
 -- the word under way is the last of the bytes read
 abbrev pub LastBytes : Bytes → List ℕ → Type 0
@@ -34,40 +42,16 @@ abbrev pub AllGood : List ℕ → List Placed → Type 0
 AllGood text [] = Unit {0}
 AllGood text (x ∷ xs) = (0 < length x.word) × (take (length x.word) (drop x.place text) ≡ x.word) × AllGood text xs
 
--- A word reader that came about by calls: its reader did, the word under way is the last of the bytes read, and the words
--- that wait are parts of the text.
-abbrev pub SoundBy : Rules → Stage → List ℕ → ℕ → State → List Placed → Type 0
-SoundBy r Reading text at s waiting = Fit r s × LastBytes s.word (take at text) × AllGood text waiting
-SoundBy r Ended text at s waiting = AllGood text waiting
-SoundBy r (Broken f) text at s waiting = Unit {0}
+-- What every word reader keeps: before the end its reader's state is one that bytes lead to, and the word under way is the
+-- last of the bytes taken; the words that wait are parts of the text.
+abbrev pub SoundBy : Rules → Option ReadFault → List ℕ → ℕ → State → List Placed → Type 0
+SoundBy r None text n s ws = (n ≤ length text → Fit r s × LastBytes s.word (take n text)) × AllGood text ws
+SoundBy r (Some f) text n s ws = Unit {0}
 
-abbrev pub Sound : {L : Type 0} → Rules → Words L → Type 0
-Sound r v = SoundBy r v.stage v.text.now v.at (state_of v.reader) (waiting_of r v)
+-- how many items are left: the words of a document; of a text that is refused they have no end, since the refusal is told again and again
+abbrev pub items_of : Close → ℕ → Count
+items_of whole n = at_most n
+items_of (broken number place) n = endless
 
--- the reading goes on, and no word waits
-abbrev pub IdleBy : Stage → List Placed → Type 0
-IdleBy Reading waiting = waiting ≡ []
-IdleBy Ended waiting = ⊥
-IdleBy (Broken f) waiting = ⊥
-
-abbrev pub Idle : {L : Type 0} → Rules → Words L → Type 0
-Idle r v = IdleBy v.stage (waiting_of r v)
-
--- what a test tells
-abbrev pub Tells : Bool → Type 0 → Type 0
-Tells true P = P
-Tells false P = P → ⊥
-
-abbrev pub is_reading : Stage → Bool
-is_reading Reading = true
-is_reading Ended = false
-is_reading (Broken f) = false
-
--- how often the reading can go on at most
-abbrev pub turns_by : Stage → List ℕ → ℕ → ℕ
-turns_by Reading text at = suc (length text - at)
-turns_by Ended text at = 0
-turns_by (Broken f) text at = 0
-
-abbrev pub turns_left : {L : Type 0} → Words L → ℕ
-turns_left v = turns_by v.stage v.text.now v.at
+abbrev pub items_left : Story → Count
+items_left s = items_of s.close (length s.told)

@@ -1,2 +1,3 @@
-pub mod Handed
 pub mod Left
+pub mod Inside
+pub mod Handed

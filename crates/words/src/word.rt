@@ -4,8 +4,9 @@ ghost use Rattle.words.specs.Handed.{kind_of, placed_of};
 
 use rules::word::Kind;
 
-// Each holds its part of the text, and the place of its first byte.
-#[derive(Clone, Copy)]
+// Each holds its part of the text, and the place of its first byte. A word is handed out by its kind, so
+// each kind is a case.
+#[derive(Clone, Copy, PartialEq, Eq, Debug)]
 pub enum Word<'a> {
     Opening { part: &'a [u8], place: usize },
     Closing { part: &'a [u8], place: usize },
@@ -40,14 +41,14 @@ impl<'a> Word<'a> {
         ensures { result ≡ kind_of self.entry }
     {
         match self {
-            Word::Opening { part: _, place: _ } => Kind::Opening,
-            Word::Closing { part: _, place: _ } => Kind::Closing,
-            Word::Comma { part: _, place: _ } => Kind::Comma,
-            Word::Colon { part: _, place: _ } => Kind::Colon,
-            Word::Text { part: _, place: _ } => Kind::Text,
-            Word::Number { part: _, place: _ } => Kind::Number,
-            Word::Literal { part: _, place: _ } => Kind::Literal,
-            Word::Atom { part: _, place: _ } => Kind::Atom,
+            Word::Opening { .. } => Kind::Opening,
+            Word::Closing { .. } => Kind::Closing,
+            Word::Comma { .. } => Kind::Comma,
+            Word::Colon { .. } => Kind::Colon,
+            Word::Text { .. } => Kind::Text,
+            Word::Number { .. } => Kind::Number,
+            Word::Literal { .. } => Kind::Literal,
+            Word::Atom { .. } => Kind::Atom,
         }
     }
 
@@ -56,14 +57,14 @@ impl<'a> Word<'a> {
         ensures { result.now ≡ (placed_of self.entry).word }
     {
         match self {
-            Word::Opening { part, place: _ }
-            | Word::Closing { part, place: _ }
-            | Word::Comma { part, place: _ }
-            | Word::Colon { part, place: _ }
-            | Word::Text { part, place: _ }
-            | Word::Number { part, place: _ }
-            | Word::Literal { part, place: _ }
-            | Word::Atom { part, place: _ } => part,
+            Word::Opening { part, .. }
+            | Word::Closing { part, .. }
+            | Word::Comma { part, .. }
+            | Word::Colon { part, .. }
+            | Word::Text { part, .. }
+            | Word::Number { part, .. }
+            | Word::Literal { part, .. }
+            | Word::Atom { part, .. } => part,
         }
     }
 
@@ -72,14 +73,14 @@ impl<'a> Word<'a> {
         ensures { result ≡ (placed_of self.entry).place }
     {
         match self {
-            Word::Opening { part: _, place }
-            | Word::Closing { part: _, place }
-            | Word::Comma { part: _, place }
-            | Word::Colon { part: _, place }
-            | Word::Text { part: _, place }
-            | Word::Number { part: _, place }
-            | Word::Literal { part: _, place }
-            | Word::Atom { part: _, place } => place,
+            Word::Opening { place, .. }
+            | Word::Closing { place, .. }
+            | Word::Comma { place, .. }
+            | Word::Colon { place, .. }
+            | Word::Text { place, .. }
+            | Word::Number { place, .. }
+            | Word::Literal { place, .. }
+            | Word::Atom { place, .. } => place,
         }
     }
 }

@@ -1,31 +1,33 @@
 // A word reader over a text that is lent for reading.
-ghost use Rattle.std.specs.Prelude.{◌≤◌, length};
-
 use crate::fault::ReadFault;
 use reader::reader::Reader;
+use rules::language::Language;
+use std::marker::Model;
 
+mod advancing;
 pub mod handing;
-mod taking;
-mod waiting;
-
-// How far the reading has come: it goes on; the end was taken; or a byte or the end was refused.
-#[derive(Clone, Copy)]
-pub(crate) enum Stage {
-    Reading,
-    Ended,
-    Broken(ReadFault),
-}
 
 #[derive(Drop)]
-pub struct Words<'a, L> {
+pub struct Words<'a, L: Language> {
     text: &'a [u8],
     reader: Reader<L>,
-    // the bytes read
-    at: usize,
-    // the place of the last byte read, or of the end once it was taken
-    last: usize,
-    // how many of the words ended there have been handed out
+    // how many bytes were taken; the end counts as one more
+    taken: usize,
+    // how many of the words that the last of these has ended were handed out
     handed: u32,
-    stage: Stage,
-    ghost within: { at ≤ length text.now },
+    // the refusal that ended the reading
+    fault: Option<ReadFault>,
+}
+
+// A word reader is what is left to hand out of its text; each word that waits is a part of the text.
+impl<'a, L: Language> Model for Words<'a, L> {
+    ghost use Rattle.words.specs.Left.{Telling};
+
+    ghost Value = { Telling };
+
+    ghost use Rattle.words.specs.Inside.{telling, Sound};
+
+    ghost view = { telling L.Language.rules };
+
+    ghost invariant = { Sound L.Language.rules };
 }

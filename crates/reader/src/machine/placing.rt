@@ -1,7 +1,6 @@
 // Words at their place.
 ghost use Rattle.std.specs.Prelude.{◌≡◌, reverse, [], ◌∷◌, ◌++◌};
 ghost use Rattle.rules.specs.Rules.{innermost};
-ghost use Rattle.rules.specs.Machine.{no_brackets};
 ghost use Rattle.reader.specs.Pieces.{piece_at};
 ghost use Rattle.reader.specs.State.{expecting, Around};
 ghost use Rattle.reader.specs.Goes.{Gone, Collected};
@@ -43,13 +42,6 @@ impl<L: Language> Machine<L> {
     {
         let first = self.word.as_slice()[0];
         self.piece(self.expects, first).unwrap()
-    }
-
-    // May a document end where this may come?
-    pub(crate) fn may_close(&self, expects: Expects) -> bool
-        ensures { result ≡ no_brackets L.Language.rules (expecting expects self.now.place) }
-    {
-        L::ends(expects) && self.brackets.is_empty()
     }
 }
 

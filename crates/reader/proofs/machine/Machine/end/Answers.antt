@@ -1,10 +1,16 @@
-use Rattle.std.proofs.Common.{ap}
-use Rattle.reader.specs.State.{Held, held}
-use Rattle.reader.proofs.Leaves.{leaves}
+use Rattle.std.proofs.Common.{ap, sym, ◌∙◌, rules}
+use Rattle.reader.specs.State.{Held}
+use Rattle.reader.specs.Inside.{held_of}
+use Rattle.reader.proofs.Leaves.{leaves, ends_word}
 use Rattle.reader.proofs.machine.Machine.end.Goals as goal
 
 pub invariant_of-self : goal.invariant_of-self
 invariant_of-self g c =
-    let v = c.self.inside in
-    let h₀ = held v.expects v.brackets.items v.inside v.word.items v.begun in
-    leaves g.L.Language.rules g.L.Language.lawful c.settle.new.self c.in-Some.inside c.around-piece.result c.behind-self-inside.result h₀.place c.around-piece.ensures c.behind-self-inside.ensures (ap (λ (x : Held). x.place) c.self.view_is)
+    leaves g.L.Language.rules g.L.Language.lawful c.settle.new.self c.in-Some.inside c.around-piece.result c.behind-behind.result (held_of c.self.inside).place c.around-piece.ensures c.behind-behind.ensures
+    (ap (λ (x : Held). x.place) c.self.view_is)
+
+pub returns : goal.returns
+returns g c =
+    let w = ends_word g.L.Language.rules g.L.Language.lawful c.settle.new.self c.in-Some.inside c.around-piece.result c.behind-behind.result (held_of c.self.inside).place c.around-piece.ensures c.behind-behind.ensures
+    (ap (λ (x : Held). x.place) c.self.view_is) (sym c.may_close_behind.ensures ∙ c.if-not-may_close_behind.false) in
+    search rules

@@ -1,7 +1,8 @@
 use Rattle.std.proofs.Common.{◌≡◌, true, ◌&&◌, [], ◌∷◌, ◌++◌, refl, rules, ap, subst, Some}
 use Rattle.rules.specs.declared.word.Turn.TheVariants.{Closes as ClosesWord, Never as NeverTurns}
 use Rattle.rules.specs.Machine.{short}
-use Rattle.reader.specs.State.{Held, Sound, state_of, held, at_rest}
+use Rattle.reader.specs.State.{Held, Sound, state_of, at_rest}
+use Rattle.reader.specs.Inside.{held_of}
 use Rattle.reader.proofs.Sound.{sound_went}
 use Rattle.reader.proofs.Leaves.{leaves, closes, went_behind, refused_behind}
 use Rattle.reader.proofs.machine.Machine.within.Goals as goal
@@ -9,15 +10,13 @@ use Rattle.reader.proofs.machine.Machine.within.Goals as goal
 pub invariant_of-self-in-Stays : goal.invariant_of-self-in-Stays
 invariant_of-self-in-Stays g c =
     let r = g.L.Language.rules in
-    let h = c.args.self.now in
-    sound_went r (state_of h) c.args.byte (at_rest (state_of (held c.self.inside.expects c.self.inside.brackets.items (Some c.in-Stays.next) c.collect.new.word.items c.self.inside.begun)))
-    (subst (λ (x : Held). Sound r (state_of x)) c.self.view_is c.self.invariant) (search rules)
+    let m = record c.self.inside { inside = Some c.in-Stays.next; word = c.collect.new.word } in
+    sound_went r (state_of c.args.self.now) c.args.byte (at_rest (state_of (held_of m))) (subst (λ (x : Held). Sound r (state_of x)) c.self.view_is c.self.invariant) (search rules)
 
 pub invariant_of-self-in-Closes : goal.invariant_of-self-in-Closes
 invariant_of-self-in-Closes g c =
-    let v = c.self.inside in
-    let h₀ = held v.expects v.brackets.items v.inside v.word.items v.begun in
-    leaves g.L.Language.rules g.L.Language.lawful c.args.self.now c.args.inside c.around-piece.result c.behind-self-inside.result h₀.place c.around-piece.ensures c.behind-self-inside.ensures (ap (λ (x : Held). x.place) c.self.view_is)
+    leaves g.L.Language.rules g.L.Language.lawful c.args.self.now c.args.inside c.around-piece.result c.behind-self-inside.result (held_of c.self.inside).place c.around-piece.ensures c.behind-self-inside.ensures
+    (ap (λ (x : Held). x.place) c.self.view_is)
 
 pub returns-in_ok-collect-in-Closes : goal.returns-in_ok-collect-in-Closes
 returns-in_ok-collect-in-Closes g c =
@@ -49,9 +48,9 @@ returns-in_ok-own-in-Never g c =
     let r = g.L.Language.rules in
     let h = c.args.self.now in
     let u = c.around-piece-in-Never.ensures in
+    let b = c.in_ok-own-in-Never.ensures in
     let turn : r.turns c.args.inside h.bytes c.args.byte ≡ NeverTurns = search rules in
     let ends : (r.whole c.args.inside h.bytes && r.delimits c.args.byte) ≡ true = search rules in
     let small : short h.bytes ≡ true = search rules in
-    let b = c.in_ok-own-in-Never.ensures in
     let w = went_behind r g.L.Language.lawful h.place c.args.inside h.bytes c.args.byte c.around-piece-in-Never.result c.behind.result u.sound u.piece c.behind.ensures turn ends small (state_of c.between.new.self) c.in_ok-own-in-Never.own b.1 in
     search rules
