@@ -4,59 +4,38 @@
 
 use json_grammar::json::Json;
 use rules::language::Language;
-use rules::word::Kind;
 use sexpr::sexpr::Sexpr;
 use std::io;
 use std::io::Write;
 use words::word::Word;
 use words::words::Words;
 
-// What a kind is called.
-fn name_of(kind: Kind) -> &'static str {
-    match kind {
-        Kind::Opening => "opening",
-        Kind::Closing => "closing",
-        Kind::Comma => "comma",
-        Kind::Colon => "colon",
-        Kind::Text => "string",
-        Kind::Number => "number",
-        Kind::Literal => "literal",
-        Kind::Atom => "atom",
-    }
-}
-
 fn tell_word(rt: &HostRuntime, word: Word<'_>) -> io::Result<()> {
     let place = word.place();
-    let kind = name_of(word.kind());
+    let kind = word.kind();
     print!(rt; "  {place} {kind} ")?;
     rt.stdout().write_all(word.part())?;
     println!(rt; "")
 }
 
-// Tells the words of a text; it has no more words than bytes.
+// Tells the words of a text; it has no more words than bytes, and a refusal comes behind them.
 fn tell_words<L: Language>(rt: &HostRuntime, text: &[u8]) -> io::Result<()> {
-    let mut words: Words<'_, L> = Words::new(text);
-    for _ in 0..=text.len() {
-        match words.next() {
-            Some(Ok(word)) => tell_word(rt, word)?,
-            Some(Err(fault)) => {
-                let number = fault.number;
-                let place = fault.place;
-                return println!(rt; "  refused by {number} at {place}");
-            }
-            None => return println!(rt; "  whole"),
+    for word in Words::<L>::new(text).take(text.len() + 1) {
+        match word {
+            Ok(word) => tell_word(rt, word)?,
+            Err(fault) => return println!(rt; "  refused by {fault}"),
         }
     }
-    Ok(())
+    println!(rt; "  whole")
 }
 
 fn tell_line(rt: &HostRuntime, line: &str) -> io::Result<()> {
     println!(rt; "{line}")?;
     let bytes = line.as_bytes();
-    if line.starts_with("json ") {
-        tell_words::<Json>(rt, &bytes[5..])
-    } else if line.starts_with("sexpr ") {
-        tell_words::<Sexpr>(rt, &bytes[6..])
+    if let Some(text) = bytes.strip_prefix(b"json ") {
+        tell_words::<Json>(rt, text)
+    } else if let Some(text) = bytes.strip_prefix(b"sexpr ") {
+        tell_words::<Sexpr>(rt, text)
     } else {
         println!(rt; "  no such grammar")
     }

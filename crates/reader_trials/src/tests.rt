@@ -14,12 +14,12 @@ fn refusal<G: Grammar + Drop>(text: &[u8]) -> (u8, usize) {
     let mut reader = G::fresh();
     for (place, byte) in text.iter().enumerate() {
         if let Err(refusal) = reader.take(*byte) {
-            return (refusal.number, place);
+            return (refusal.number(), place);
         }
     }
     match reader.end() {
         Ok(_) => (0, text.len()),
-        Err(refusal) => (refusal.number, text.len()),
+        Err(refusal) => (refusal.number(), text.len()),
     }
 }
 
@@ -46,19 +46,8 @@ fn letter<G: Grammar + Drop>(text: &[u8], number: u32) -> u8 {
     }
     match reader.token(number) {
         None => b'n',
-        Some(
-            Token::Opening {
-                offset: _,
-                fold: _,
-                anchor: _,
-            },
-        ) => b'o',
-        Some(
-            Token::Break {
-                blanks: _,
-                offset: _,
-            },
-        ) => b'b',
+        Some(Token::Opening(_)) => b'o',
+        Some(Token::Break(_)) => b'b',
         Some(Token::Text(_)) => b't',
         Some(Token::Ending) => b'e',
     }
@@ -97,18 +86,10 @@ fn what_a_byte_gives(rt: HostRuntime) {
 // The order of tokens: a number and the bracket behind it; an atom and an opening behind it.
 #[test]
 fn the_order_of_tokens(rt: HostRuntime) {
-    let expected = b"btbten";
-    for number in 0..6 {
-        assert_eq!(rt;
-            letter::<JsonReader>(b"[1]", number),
-            expected[number as usize]
-        );
+    for (number, expected) in (0..6).zip(b"btbten") {
+        assert_eq!(rt; letter::<JsonReader>(b"[1]", number), *expected);
     }
-    let expected = b"tbotn";
-    for number in 0..5 {
-        assert_eq!(rt;
-            letter::<SexprReader>(b"(a(", number),
-            expected[number as usize]
-        );
+    for (number, expected) in (0..5).zip(b"tbotn") {
+        assert_eq!(rt; letter::<SexprReader>(b"(a(", number), *expected);
     }
 }
