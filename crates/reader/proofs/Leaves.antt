@@ -2,19 +2,18 @@
 use Rattle.std.proofs.Common.{◌≡◌, ℕ, Bool, true, false, cond, ◌&&◌, List, [], ◌∷◌, ◌++◌, ◌<◌, length, get_or, Some, None, Option, sym, refl, ap, ◌∙◌, subst, arith}
 use Rattle.std.proofs.lemmas.List.{append-nil}
 use Rattle.std.proofs.lemmas.Bool.{and_from, cond-true}
-use Rattle.layout.specs.Tokens.{Token, Text}
+use Rattle.layout.specs.Tokens.{Token}
 use Rattle.grammar.specs.Meaning.{Word, end, Answer, gives, refused}
 use Rattle.layout.specs.declared.token.Break.{Break as Lead}
 use Rattle.rules.specs.declared.word.Inside.{Inside}
-use Rattle.rules.specs.declared.word.Begin.{Begin}
 use Rattle.rules.specs.declared.word.Begin.TheVariants.{Sole, Starts}
 use Rattle.rules.specs.declared.word.Turn.TheVariants.{Closes as ClosesWord, Never as NeverTurns}
 use Rattle.rules.specs.declared.place.Bracket.{Bracket}
 use Rattle.rules.specs.declared.place.Expects.{Expects}
 use Rattle.rules.specs.declared.place.Move.{Move}
 use Rattle.rules.specs.declared.place.Move.TheVariants.{Within, Opens, Closes as ClosesBracket}
-use Rattle.rules.specs.Rules.{Rules, Place, moves_at, is_some, admits, moved, placed, behind, behind_all, led, opened, closed, word_tokens, stand_for}
-use Rattle.rules.specs.Machine.{State, Step, on, dead, step, judged, begun, between, ending, turned, low, short, all_short, all_low, no_brackets, reply}
+use Rattle.rules.specs.Rules.{Rules, Place, moves_at, moved, behind, behind_all, word_tokens, stand_for}
+use Rattle.rules.specs.Machine.{State, Step, on, dead, step, judged, between, ending, low, short, all_short, all_low, no_brackets, reply}
 use Rattle.rules.specs.Lawful.{Lawful, Begun, first_byte, one_more, Reached}
 use Rattle.reading.specs.Accepts.{at}
 use Rattle.reading.proofs.Fit.{reached_behind}
@@ -22,8 +21,8 @@ use Rattle.reading.proofs.Steps.{went, goes}
 use Rattle.reader.specs.declared.piece.Piece.{Piece}
 use Rattle.reader.specs.declared.over.Own.{Own}
 use Rattle.reader.specs.Pieces.{piece_for, piece_at, piece_of, piece_tokens, own_word, own_tokens}
-use Rattle.reader.specs.State.{Held, under_way, state_of, Sound, Around, expecting}
-use Rattle.reader.specs.Goes.{Went, Ended}
+use Rattle.reader.specs.State.{Held, state_of, Sound, Around, expecting}
+use Rattle.reader.specs.Goes.{Went, Closed}
 
 -- what stands around a word says what it does
 piece_parts : (lead : Option Lead) (m : Option Move) (k : Piece) → piece_for lead m ≡ Some k → (m ≡ Some k.step) × (lead ≡ k.lead)
@@ -33,8 +32,7 @@ piece_parts lead (Some m) k e = (cc, cc)
 tokens_of_piece : (r : Rules) (p : Place) (b : ℕ) (w : Word) (k : Piece) → piece_at r p b ≡ Some k → word_tokens r p (b ∷ w) ≡ piece_tokens r k (b ∷ w)
 tokens_of_piece r p b w k e =
     let m = piece_parts (r.lead p.expects b) (moves_at r p b) k e in
-    ap (λ (o : Option Move). led (r.lead p.expects b) ++ (opened r.block o ++ (Text (r.text (b ∷ w)) ∷ closed o))) m.0
-    ∙ ap (λ (o : Option Lead). led o ++ (opened r.block (Some k.step) ++ (Text (r.text (b ∷ w)) ∷ closed (Some k.step)))) m.1
+    rw (m.0, m.1)
 
 -- a word under way has begun, and so only changes what may come next
 abbrev StartsFirst : Rules → Word → Type 0
@@ -60,8 +58,7 @@ over_first r l p i b w v k h e =
     let m = piece_parts (r.lead p.expects b) (moves_at r p b) k e in
     let s = starts r i (b ∷ w) h.fit.0.0 in
     let x = l.started_stays b s.0 p.expects _ k.step s.1 m.0 in
-    let q : behind r p (b ∷ v) ≡ expecting (moved k.step []).expects p =
-    ap (λ (o : Option Move). placed o p) m.0 ∙ (ap (λ (n : Move). moved n p.brackets) x.1 ∙ sym (ap (λ (n : Move). expecting (moved n []).expects p) x.1)) in
+    let q : behind r p (b ∷ v) ≡ expecting (moved k.step []).expects p = rw (m.0, x.1) in
     record {
       place = q;
       tokens = tokens_of_piece r p b v k e;
@@ -81,7 +78,7 @@ closes r l p i (b ∷ w) c k h e t small =
     let v : Word = (b ∷ w) ++ c ∷ [] in
     let s : State = at p (Some i) (b ∷ w) in
     let o = over_first r l p i b w (w ++ c ∷ []) k h e in
-    let stepped : step r s c ≡ on None [] (v ∷ []) = ap (turned r p i (b ∷ w) c) t in
+    let stepped : step r s c ≡ on None [] (v ∷ []) = rw t in
     let lows = and_from (low (behind r p v)) true (ap low o.place ∙ h.shallow) refl in
     let answered = (went r s (on None [] (v ∷ [])) (goes r s (on None [] (v ∷ [])) refl (and_from (short v) true small refl) lows)).answered in
     record { stepped = stepped; place = sym o.place; answered = ap (judged r s) stepped ∙ (answered ∙ ap (λ (ts : List Token). gives (v ∷ []) (ts ++ [])) o.tokens) }
@@ -98,12 +95,11 @@ sole r p b k ks e piece same few =
     let s : State = at p None [] in
     let ws : List Word = (b ∷ []) ∷ [] in
     let m = piece_parts (r.lead p.expects b) (moves_at r p b) k piece in
-    let there : behind r p (b ∷ []) ≡ moved k.step p.brackets = ap (λ (o : Option Move). placed o p) m.0 in
-    let stepped : step r s b ≡ on None [] ws = ap (λ (x : Begin). begun (admits r p b) x b) e ∙ cond-true (admits r p b) (on None [] ws) dead (ap is_some m.0) in
-    let answered = (went r s (on None [] ws) (goes r s (on None [] ws) refl refl (and_from (low (behind r p (b ∷ []))) true (ap low there ∙ few) refl))).answered in
+    let stepped : step r s b ≡ on None [] ws = rw (e, m.0) in
+    let answered = (went r s (on None [] ws) (goes r s (on None [] ws) refl refl (rw (m.0, few)))).answered in
     record {
       stepped = stepped;
-      place = ap (λ (xs : List Bracket). record { expects = (moved k.step []).expects; brackets = xs }) same ∙ (sym (moved_place p k.step) ∙ sym there);
+      place = rw (same, m.0) (sym (moved_place p k.step));
       answered = ap (judged r s) stepped ∙ (answered ∙ ap (λ (ts : List Token). gives ws ts) (append-nil (word_tokens r p (b ∷ [])) ∙ tokens_of_piece r p b [] k piece));
     }
 
@@ -134,28 +130,25 @@ module _ (r : Rules) (l : Lawful r) (p : Place) (i : Inside) (w : Word) (c : ℕ
   there = (over r l p i w k h e).place ∙ ap (λ (y : Expects). expecting y p) (sym behind_it)
 
   stepped_behind : step r (at p (Some i) w) c ≡ ending w (between r (expecting x p) c)
-  stepped_behind = ap (turned r p i w c) t ∙ (cond-true (r.whole i w && r.delimits c) (ending w (between r (behind r p w) c)) dead ends ∙ ap (λ (q : Place). ending w (between r q c)) there)
+  stepped_behind = rw (t, ends, there)
 
   answered_behind : judged r (at p (Some i) w) (step r (at p (Some i) w) c) ≡ after_word w (piece_tokens r k w) (judged r (at (expecting x p) None []) (step r (at (expecting x p) None []) c))
-  answered_behind =
-      ap (judged r (at p (Some i) w)) stepped_behind ∙ (judged_ending r (at p (Some i) w) w (between r (expecting x p) c) small (ap low there ∙ h.shallow)
-      ∙ (ap (λ (q : Place). after_word w (word_tokens r p w) (judged r (at q None []) (between r (expecting x p) c))) there
-      ∙ ap (λ (ts : List Token). after_word w ts (judged r (at (expecting x p) None []) (between r (expecting x p) c))) (over r l p i w k h e).tokens))
+  answered_behind = rw (stepped_behind, judged_ending r (at p (Some i) w) w (between r (expecting x p) c) small (rw there h.shallow), there, (over r l p i w k h e).tokens)
 
   pub went_behind : (s : State) (o : Option Own) → Went r (at (expecting x p) None []) c (record { state = s; ended = own_word o; given = own_tokens r o })
       → Went r (at p (Some i) w) c (record { state = s; ended = (w ∷ []) ++ own_word o; given = piece_tokens r k w ++ own_tokens r o })
   went_behind s o g = record {
-    stepped = stepped_behind ∙ ap (ending w) g.stepped;
-    place = g.place ∙ ap (λ (q : Place). behind_all r q (own_word o)) (sym there);
-    answered = answered_behind ∙ ap (after_word w (piece_tokens r k w)) g.answered;
+    stepped = rw (stepped_behind, g.stepped);
+    place = rw (there, behind_all) g.place;
+    answered = rw (answered_behind, g.answered);
   }
 
   pub refused_behind : (n : ℕ) → judged r (at (expecting x p) None []) (step r (at (expecting x p) None []) c) ≡ refused n → judged r (at p (Some i) w) (step r (at p (Some i) w) c) ≡ refused n
-  refused_behind n g = answered_behind ∙ ap (after_word w (piece_tokens r k w)) g
+  refused_behind n g = rw (answered_behind, g)
 
 -- the same of a machine whose word under way is collected
 pub under_state : (h : Held) (i : Inside) → h.inside ≡ Some i → h.waiting ≡ None → state_of h ≡ at h.place (Some i) h.bytes
-under_state h i under settled = ap (λ (io : Option Inside). at h.place io (under_way io h.waiting h.bytes)) under ∙ ap (λ (x : Option ℕ). at h.place (Some i) (under_way (Some i) x h.bytes)) settled
+under_state h i under settled = rw (under, settled)
 
 pub under_sound : (r : Rules) (h₀ h : Held) (i : Inside) → Sound r (state_of h₀) → h₀ ≡ h → h.inside ≡ Some i → h.waiting ≡ None → Sound r (at h.place (Some i) h.bytes)
 under_sound r h₀ h i s same under settled = subst (Sound r) (ap state_of same ∙ under_state h i under settled) s
@@ -170,12 +163,11 @@ piece_first r p (b ∷ w) h = refl
 
 pub leaves : (r : Rules) → Lawful r → (h : Held) (i : Inside) (k : Piece) (e : Expects) (q : Place) → Around r h i k → e ≡ (moved k.step []).expects → q ≡ h.place → Sound r (at (expecting e q) None [])
 leaves r l h i k e q u behind there =
-    subst (λ (x : Expects). Sound r (at (expecting x q) None [])) (sym behind) (subst (λ (y : Place). Sound r (at (expecting (moved k.step []).expects y) None [])) (sym there)
-    (over r l h.place i h.bytes k u.sound u.piece).sound)
+    rw (behind, there) (over r l h.place i h.bytes k u.sound u.piece).sound
 
 -- the end
 pub ends_word : (r : Rules) → Lawful r → (h : Held) (i : Inside) (k : Piece) (e : Expects) (q : Place) → Around r h i k → e ≡ (moved k.step []).expects → q ≡ h.place → (r.whole i h.bytes && no_brackets r (expecting e h.place)) ≡ true
-    → Ended r (state_of h) (record { state = at (expecting e q) None []; ended = h.bytes ∷ []; given = piece_tokens r k h.bytes ++ [] })
+    → Closed r (state_of h) (record { state = at (expecting e q) None []; ended = h.bytes ∷ []; given = piece_tokens r k h.bytes ++ [] })
 ends_word r l h i k e q u behind_it there may =
     let o = over r l h.place i h.bytes k u.sound u.piece in
     let same : expecting e h.place ≡ behind r h.place h.bytes = ap (λ (x : Expects). expecting x h.place) behind_it ∙ sym o.place in

@@ -1,10 +1,9 @@
 -- What every machine keeps.
-use Rattle.std.proofs.Common.{◌≡◌, ℕ, true, List, [], ◌∷◌, refl, ap, subst, sym, ◌∙◌}
+use Rattle.std.proofs.Common.{◌≡◌, ℕ, true, List, [], ◌∷◌, refl, ap, subst}
 use Rattle.std.proofs.lemmas.Bool.{and_parts}
 use Rattle.grammar.specs.Meaning.{Word, granted}
 use Rattle.rules.specs.Rules.{Rules, Place, behind, behind_all}
 use Rattle.rules.specs.Machine.{State, Step, dead, on, step, next, judged, low, all_low, fresh}
-use Rattle.reading.specs.Accepts.{at}
 use Rattle.reading.proofs.Fit.{fit_fresh, fit_next}
 use Rattle.reading.proofs.Steps.{went}
 use Rattle.reader.specs.State.{Sound, Reading}
@@ -24,7 +23,7 @@ low_next r s (on io w ws) h g = low_behind r s.place ws h (went r s (on io w ws)
 
 -- a byte that is taken leaves the state that the machine goes to
 pub next_state : (r : Rules) (s : State) (b : ℕ) (v : Reading) → Went r s b v → next r s (step r s b) ≡ v.state
-next_state r s b v w = ap (next r s) w.stepped ∙ ap (λ (p : Place). at p v.state.inside v.state.word) (sym w.place)
+next_state r s b v w = rw (w.stepped, ← w.place)
 
 -- so that keeps it
 pub sound_went : (r : Rules) (s : State) (b : ℕ) (v : Reading) → Sound r s → Went r s b v → Sound r v.state

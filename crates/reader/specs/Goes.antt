@@ -46,14 +46,14 @@ Steps r s b v (Ok done) = Went r s b v
 Steps r s b v (Err e) = (judged r s (step r s b) ≡ refused (number_of e)) × (v ≡ at_rest s)
 
 -- the end, from the state s
-pub record Ended (r : Rules) (s : State) (v : Reading) : Type 0 where
+pub record Closed (r : Rules) (s : State) (v : Reading) : Type 0 where
   pub state : v.state ≡ at (behind_all r s.place v.ended) None []
   pub answered : reply r s end ≡ gives v.ended v.given
 
 abbrev pub Closes : Rules → State → Held → Result Over Refusal → Type 0
-Closes r s h (Ok o) = Ended r s (reading r h o)
+Closes r s h (Ok o) = Closed r s (reading r h o)
 Closes r s h (Err e) = (reply r s end ≡ refused (number_of e)) × (state_of h ≡ s)
 
 abbrev pub Finishes : Rules → State → Reading → Result (Unit {0}) Refusal → Type 0
-Finishes r s v (Ok done) = Ended r s v
+Finishes r s v (Ok done) = Closed r s v
 Finishes r s v (Err e) = (reply r s end ≡ refused (number_of e)) × (v ≡ at_rest s)

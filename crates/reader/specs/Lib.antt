@@ -1,5 +1,5 @@
 pub mod Pieces
 pub mod State
-pub mod Inside
+pub mod Fields
 pub mod Goes
 pub mod Endings

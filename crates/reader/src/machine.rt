@@ -34,7 +34,7 @@ impl<L: Language> Model for Machine<L> {
 
     ghost Value = { Held };
 
-    ghost use Rattle.reader.specs.Inside.{held_of};
+    ghost use Rattle.reader.specs.Fields.{held_of};
 
     ghost view = { held_of };
 

@@ -1,15 +1,15 @@
 -- What each step of a word reader leaves.
-use Rattle.std.proofs.Common.{◌≡◌, ℕ, suc, ◌+◌, ◌-◌, ◌<◌, ◌≤◌, nat_le, cond, not, List, [], ◌∷◌, ◌++◌, length, take, drop, Some, None, Ok, Err, Option, sym, refl, ap, ◌∙◌, subst, ⊎_elim, arith}
+use Rattle.std.proofs.Common.{◌≡◌, ℕ, ◌+◌, ◌-◌, ◌<◌, ◌≤◌, nat_le, cond, not, List, [], ◌∷◌, ◌++◌, length, take, drop, Some, None, Ok, Err, Option, sym, refl, ap, ◌∙◌, subst, ⊎_elim, arith}
 use Rattle.std.proofs.lemmas.List.{append-nil, drop_more, drop_all}
 use Rattle.std.proofs.lemmas.Bool.{le-leb, lt-leb, cond-true, cond-false, cases_lt}
 use Rattle.grammar.specs.declared.refusal.Refusal.{Refusal}
 use Rattle.grammar.specs.Refusals.{number_of}
-use Rattle.grammar.specs.Meaning.{Word as Bytes, Answer}
+use Rattle.grammar.specs.Meaning.{Word as Bytes}
 use Rattle.rules.specs.Rules.{Rules, loose}
-use Rattle.rules.specs.Machine.{State, step, next, means}
+use Rattle.rules.specs.Machine.{State, means}
 use Rattle.rules.specs.Lawful.{Lawful}
 use Rattle.reading.specs.Places.{Placed, placed_at}
-use Rattle.reading.specs.Story.{Story, whole, broken, before, story, story_byte, story_end}
+use Rattle.reading.specs.Story.{Story, whole, broken, before, story}
 use Rattle.reading.specs.Fit.{Fit}
 use Rattle.reader.specs.Endings.{described_at}
 use Rattle.reader.specs.State.{Reading}
@@ -19,7 +19,7 @@ use Rattle.words.specs.declared.word.Word.{Word}
 use Rattle.words.specs.Handed.{kind_of, placed_of, OfKind, Handed, Takes}
 use Rattle.words.specs.Left.{rest, left_by, unread_by, LastBytes, AllGood, SoundBy, waiting}
 use Rattle.words.specs.declared.words.Words.TheInside.{Inside}
-use Rattle.words.specs.Inside.{waits, Sound}
+use Rattle.words.specs.Fields.{waits, Sound}
 use Rattle.words.proofs.Waits.{First, first_waits, none_waits}
 use Rattle.words.proofs.Turns.{byte_turns, end_turns}
 
@@ -66,7 +66,7 @@ stays : (r : Rules) (text : List ℕ) (n : ℕ) (s : State) (ws : List Placed) (
 stays r text n s ws v h e same fits parts =
     let more : ℕ → List Placed = λ k. placed_at r.kind k v.ended in
     record {
-      left = ap (λ (k : ℕ). before (more k) (rest r text (n + 1) v.state)) (last_of n) ∙ (sym same ∙ (sym (rest_before r text n s h) ∙ sym (before_none ws (rest r text n s) e)));
+      left = rw (last_of, e, rest_before r text n s h) (sym same);
       sound = (fits, subst (λ (k : ℕ). AllGood text (more k)) (sym (last_of n)) parts);
     }
 
@@ -91,13 +91,13 @@ taken r l None text n s ws v ok h e sound t = ⊎_elim (λ k. at_byte r l text n
 
 -- or refused
 refused_by : (r : Rules) (s : State) (n : ℕ) (xs : List ℕ) (v : Reading) (d : Refusal) → Takes r s xs v (Err d) → story r.kind (means r s) n xs ≡ record { told = []; close = broken (number_of d) n }
-refused_by r s n [] v d t = ap (story_end r.kind n) t.0
-refused_by r s n (b ∷ xs) v d t = ap (λ (x : Answer). story_byte r.kind n x (story r.kind (means r (next r s (step r s b))) (suc n) xs)) t.0
+refused_by r s n [] v d t = rw t.0
+refused_by r s n (b ∷ xs) v d t = rw t.0
 
 pub breaks : (r : Rules) (fault : Option ReadFault) (text : List ℕ) (n : ℕ) (s s' : State) (ws ws' : List Placed) (v : Reading) (d : Refusal) → fault ≡ None → n ≤ length text → ws ≡ [] → Takes r s (drop n text) v (Err d)
     → left_by r (Some (record { refusal = d; place = n })) text n s' ws' ≡ left_by r fault text n s ws
 breaks r (Some f) text n s s' ws ws' v d ok h e t = cc
-breaks r None text n s s' ws ws' v d ok h e t = sym (before_none ws (rest r text n s) e ∙ (rest_before r text n s h ∙ refused_by r s n (drop n text) v d t))
+breaks r None text n s s' ws ws' v d ok h e t = rw (e, rest_before r text n s h) (sym (refused_by r s n (drop n text) v d t))
 
 pub fewer : (fault : Option ReadFault) (text : List ℕ) (n : ℕ) → fault ≡ None → n ≤ length text → (unread_by fault text (n + 1) < unread_by fault text n) × (0 < unread_by fault text n)
 fewer None text n ok h = (omega arith, omega arith)

@@ -45,8 +45,7 @@ byte_turns r l text n s v h f t w =
     let next_is = next_state r s b v w in
     record {
       same = ap (story r.kind (means r s) n) cut
-          ∙ (ap (λ (x : Answer). story_byte r.kind n x (left (suc n) (next r s (step r s b)))) w.answered
-          ∙ (ap (λ (x : State). before (placed_at r.kind n v.ended) (left (suc n) x)) next_is ∙ ap (λ (k : ℕ). before (placed_at r.kind n v.ended) (left k v.state)) (sym (add-one n))));
+          ∙ (ap (λ (x : Answer). story_byte r.kind n x (left (suc n) (next r s (step r s b)))) w.answered ∙ rw (next_is, add-one));
       fits = subst (Fit r) next_is (fit_next r s b f);
       last = subst (λ (xs : List ℕ). LastBytes v.state.word xs) (sym (take_more text n 0 h)) (subst (λ (u : Bytes). LastBytes u (take n text ++ b ∷ [])) (ap step_word w.stepped) p.1);
       parts = good r text n v.ended (subst PlainWords words (plain_stepped r l s.place s.inside s.word b f.0))

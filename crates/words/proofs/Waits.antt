@@ -1,9 +1,9 @@
 -- The words that wait, by what the reader tells of them.
-use Rattle.std.proofs.Common.{◌≡◌, ℕ, zero, suc, ◌+◌, ◌-◌, ◌<◌, ◌≤◌, Bool, true, false, cond, not, List, [], ◌∷◌, length, take, drop, Some, None, sym, refl, ap, ◌∙◌, subst, arith, add-one}
+use Rattle.std.proofs.Common.{◌≡◌, ℕ, zero, suc, ◌+◌, ◌-◌, ◌<◌, ◌≤◌, Bool, true, false, cond, not, List, [], ◌∷◌, length, take, drop, Some, None, sym, refl, ap, ◌∙◌, arith, add-one}
 use Rattle.std.proofs.lemmas.List.{length-take, length-drop}
 use Rattle.grammar.specs.Meaning.{Word as Bytes}
 use Rattle.rules.specs.Rules.{Rules, loose}
-use Rattle.reading.specs.Places.{Placed, place_of, placed_at}
+use Rattle.reading.specs.Places.{place_of, placed_at}
 use Rattle.reader.specs.declared.ended.Ended.{Ended}
 use Rattle.reader.specs.Endings.{described_at}
 use Rattle.words.specs.Handed.{OfKind}
@@ -39,14 +39,16 @@ pub first_waits : (r : Rules) (text : List ℕ) (n : ℕ) (ws : List Bytes) (m :
 first_waits r text n [] m e place h g p = cc
 first_waits r text n ([] ∷ ws) zero e place h g p = cc
 first_waits r text n ((b ∷ w) ∷ ws) zero e place h g p =
-    let told : record { kind = r.kind b; len = length (b ∷ w) } ≡ e = cc in
-    let at_it : place ≡ place_of r.kind (n - 1) (b ∷ w) = p ∙ (ap (λ (x : Ended). cond (not (loose x.kind)) n (n - 1) - x.len) (sym told) ∙ stands_at (loose (r.kind b)) n (length w)) in
-    let part : take e.len (drop place text) ≡ b ∷ w = ap (λ (x : Ended). take x.len (drop place text)) (sym told) ∙ (ap (λ (k : ℕ). take (length (b ∷ w)) (drop k text)) at_it ∙ g.1) in
-    let long : e.len ≡ length (b ∷ w) = ap (λ (x : Ended). x.len) (sym told) in
+    let v : Bytes = b ∷ w in
+    let told : e ≡ record { kind = r.kind b; len = length v } = cc in
+    let kind = ap (λ (x : Ended). x.kind) told in
+    let long = ap (λ (x : Ended). x.len) told in
+    let at_it : place ≡ place_of r.kind (n - 1) v = p ∙ rw (kind, long) (stands_at (loose (r.kind b)) n (length w)) in
+    let part : take e.len (drop place text) ≡ v = rw (long, at_it) g.1 in
     record {
-      within = let x = in_text (b ∷ w) text (place_of r.kind (n - 1) (b ∷ w)) g.0 g.1 in omega arith;
-      waits = ap (λ (x : Placed). x ∷ placed_at r.kind (n - 1) ws) (ap (λ (k : ℕ). record { place = k; word = b ∷ w }) (sym at_it) ∙ ap (λ (v : Bytes). record { place = place; word = v }) (sym part));
-      kind = subst (λ (v : Bytes). OfKind r v e.kind) (sym part) (ap (λ (x : Ended). x.kind) (sym told));
+      within = rw (long, at_it) (in_text v text (place_of r.kind (n - 1) v) g.0 g.1);
+      waits = rw (part, at_it) refl;
+      kind = rw (part, kind) refl;
     }
 first_waits r text n (w ∷ ws) (suc m) e place h g p =
     let f = first_waits r text n ws m e place h g p in

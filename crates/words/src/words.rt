@@ -25,7 +25,7 @@ impl<'a, L: Language> Model for Words<'a, L> {
 
     ghost Value = { Telling };
 
-    ghost use Rattle.words.specs.Inside.{telling, Sound};
+    ghost use Rattle.words.specs.Fields.{telling, Sound};
 
     ghost view = { telling L.Language.rules };
 

@@ -1,6 +1,6 @@
 use Rattle.std.proofs.Common.{◌≡◌, get_or, ◌∙◌, Some, rules}
 use Rattle.reader.specs.Pieces.{piece_at}
-use Rattle.reader.specs.Inside.{held_of}
+use Rattle.reader.specs.Fields.{held_of}
 use Rattle.reader.proofs.Leaves.{under_state, under_sound, has_first, piece_first}
 use Rattle.reader.proofs.machine.Machine.around.Goals as goal
 

@@ -2,7 +2,7 @@ use Rattle.std.proofs.Common.{◌≡◌, [], ◌∷◌, reverse, None, Some, rul
 use Rattle.reading.specs.Accepts.{at}
 use Rattle.reader.specs.Pieces.{piece_at, piece_tokens}
 use Rattle.reader.specs.State.{expecting, at_rest}
-use Rattle.reader.specs.Inside.{held_of}
+use Rattle.reader.specs.Fields.{held_of}
 use Rattle.reader.proofs.Sound.{sound_went}
 use Rattle.reader.proofs.Leaves.{sole}
 use Rattle.reader.proofs.machine.Machine.between.Goals as goal

@@ -1,6 +1,6 @@
 use Rattle.std.proofs.Common.{ap, sym, ◌∙◌, rules}
 use Rattle.reader.specs.State.{Held}
-use Rattle.reader.specs.Inside.{held_of}
+use Rattle.reader.specs.Fields.{held_of}
 use Rattle.reader.proofs.Leaves.{leaves, ends_word}
 use Rattle.reader.proofs.machine.Machine.end.Goals as goal
 

@@ -2,7 +2,7 @@ use Rattle.std.proofs.Common.{◌≡◌, true, ◌&&◌, [], ◌∷◌, ◌++◌
 use Rattle.rules.specs.declared.word.Turn.TheVariants.{Closes as ClosesWord, Never as NeverTurns}
 use Rattle.rules.specs.Machine.{short}
 use Rattle.reader.specs.State.{Held, Sound, state_of, at_rest}
-use Rattle.reader.specs.Inside.{held_of}
+use Rattle.reader.specs.Fields.{held_of}
 use Rattle.reader.proofs.Sound.{sound_went}
 use Rattle.reader.proofs.Leaves.{leaves, closes, went_behind, refused_behind}
 use Rattle.reader.proofs.machine.Machine.within.Goals as goal

@@ -1,7 +1,7 @@
 use Rattle.std.proofs.Common.{◌+◌, ◌<◌, Some, Ok, ap, subst, ◌∙◌, rules}
 use Rattle.words.specs.Handed.{Handed}
 use Rattle.words.specs.Left.{Telling, left_by, unread_by, waiting}
-use Rattle.words.specs.Inside.{waits}
+use Rattle.words.specs.Fields.{waits}
 use Rattle.words.proofs.Lefts.{first, none, hands_word, hands_none, taken, breaks, fewer}
 use Rattle.words.proofs.words.Words.advance.Goals as goal
 
