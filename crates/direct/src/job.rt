@@ -19,6 +19,7 @@ pub const TOKENS: u32 = 1_000_000;
 // The most blocks open at once.
 pub const BLOCKS: usize = 64;
 
+// Where it stands (`Stands`) stays a premise of its calls, since the calls made are in no field.
 pub struct DirectJob<S> {
     sink: S,
     printer: Printer,

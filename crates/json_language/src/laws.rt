@@ -1,4 +1,5 @@
 // What the rules of JSON promise, in a contract each can be cited by.
+// One function for each language: languages are definitions here, and no types to be generic over.
 ghost use Rattle.rules.specs.Lawful.{Lawful};
 ghost use Rattle.json_language.specs.Rules.{json_rules};
 ghost use Rattle.json_language.specs.Laws.{RulesReadJson};

@@ -1,4 +1,5 @@
 // What is shown of the two languages, in a contract each can be cited by.
+// One function for each language: languages are definitions here, and no types to be generic over.
 ghost use Rattle.languages.specs.Both.{JsonIsRead, SexprsAreRead};
 ghost use Rattle.languages.specs.Readings.{RecordsRead};
 

@@ -1,4 +1,5 @@
 // The laws of the S-expressions' rules, in a contract each can be cited by.
+// One function for each language: languages are definitions here, and no types to be generic over.
 ghost use Rattle.rules.specs.Lawful.{Lawful};
 ghost use Rattle.sexpr_language.specs.Rules.{sexpr_rules};
 ghost use Rattle.sexpr_language.specs.Laws.{RulesReadSexprs};

@@ -25,6 +25,7 @@ impl Printer {
         ensures passes { (m : ℕ) (pen : LayoutPen) (h : List LayoutToken) (number : ℕ) (out : List ℕ) → Prints m pen h number out self.old → Passes over m pen h number out (S.Sink.rule sink.old) (S.Sink.text sink.old) self.old.older (S.Sink.text sink.new) self.new result }
     {
         let held = self.scan.count();
+        // Each turn passes a token, so it takes no more turns than tokens are held; none is counted by hand.
         for _ in 0..held {
             if !self.pass_first(sink, over)? {
                 return Ok(());
