@@ -21,7 +21,8 @@ pub trait Language {
     fn begins(byte: u8) -> Begin
         ensures { result ≡ rules.begins byte };
 
-    // What a byte is behind these bytes of a word under way.
+    // What a byte is behind these bytes of a word under way. How far it has come and its bytes stay two
+    // parameters, here and in `whole`: the bytes are lent for the call, and a struct around both is no plainer.
     fn turns(inside: Inside, word: &[u8], byte: u8) -> Turn
         ensures { result ≡ rules.turns inside word.now byte };
 
