@@ -1,7 +1,7 @@
 // The word reader, as callers use it.
 ghost use Rattle.std.specs.Prelude.{◌≡◌};
 ghost use Rattle.reading.specs.Story.{story_of};
-ghost use Rattle.words.specs.Left.{Telling, items_left};
+ghost use Rattle.words.specs.Left.{items_left};
 ghost use Rattle.words.specs.Handed.{Handed};
 
 use crate::fault::ReadFault;
