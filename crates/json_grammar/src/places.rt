@@ -54,7 +54,7 @@ fn as_colon(expects: Expects) -> Option<Move>
     (expects == Expects::Colon).then_some(Move::Within(Expects::Value))
 }
 
-// A bracket of JSON closes one of the same kind.
+// A bracket of JSON closes one of the same kind, and a list's closes nothing: so this is no equality.
 fn closes(bracket: Bracket, innermost: Option<Bracket>) -> Option<Move>
     ensures { result ≡ closes bracket innermost }
 {

@@ -4,4 +4,4 @@ use Rattle.reader.specs.declared.machine.Machine.TheInside.{Inside}
 use Rattle.reader.specs.State.{Held}
 
 abbrev pub held_of : {L : Type 0} → Inside L → Held
-held_of m = record { place = record { expects = m.expects; brackets = reverse m.brackets.items }; inside = m.inside; bytes = m.word.items; waiting = m.begun }
+held_of m = record { place = record { expects = m.expects; brackets = reverse m.brackets.items }; inside = m.inside; bytes = m.word; waiting = m.begun }

@@ -4,7 +4,8 @@
 ghost use Rattle.std.specs.Prelude.{◌≡◌, length};
 ghost use Rattle.rules.specs.Machine.{first_place};
 
-use crate::reader::{MOST_BYTES, MOST_OPEN};
+use crate::bytes::Bytes;
+use crate::reader::MOST_OPEN;
 use arrayvec::ArrayVec;
 use rules::language::Language;
 use rules::place::{Bracket, Expects};
@@ -24,7 +25,7 @@ pub(crate) struct Machine<L: Language> {
     // how far the word under way has come; none between words
     inside: Option<Inside>,
     // the bytes of the word under way, or of the collected word that is over
-    word: ArrayVec<u8, MOST_BYTES>,
+    word: Bytes,
     // the only byte so far of the word under way, as long as it waits to be put into `word`
     begun: Option<u8>,
 }
@@ -54,7 +55,7 @@ impl<L: Language> Machine<L> {
             expects: L::start(),
             brackets: ArrayVec::new(),
             inside: None,
-            word: ArrayVec::new(),
+            word: Bytes::new(),
             begun: None,
         }
     }
@@ -78,8 +79,7 @@ impl<L: Language> Machine<L> {
         ensures { self.new ≡ settled self.old }
     {
         if let Some(first) = self.begun {
-            self.word.clear();
-            self.word.push(first);
+            self.word.begin(first);
             self.begun = None;
         }
     }

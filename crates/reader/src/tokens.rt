@@ -1,4 +1,5 @@
-// The tokens of a word that was ended, by their numbers.
+// The tokens of a word that was ended, by their numbers. The word and the number stay two parameters of three
+// short functions, of which each takes off what it gives: a struct around both is no plainer.
 ghost use Rattle.std.specs.Prelude.{◌≡◌, ◌∷◌, Some};
 ghost use Rattle.layout.specs.Tokens.{Text};
 ghost use Rattle.grammar.specs.Reading.{Nth};

@@ -1,5 +1,6 @@
 // What the trials share, and the trials.
 use grammar::grammar::Grammar;
+use grammar::refusal::Refusal;
 use json_grammar::json::Json;
 use layout::token::Token;
 use reader::reader::Reader;
@@ -9,34 +10,32 @@ type JsonReader = Reader<Json>;
 
 type SexprReader = Reader<Sexpr>;
 
-// The number and the place of a text's refusal; 0 and its length, if it is accepted.
-fn refusal<G: Grammar + Drop>(text: &[u8]) -> (u8, usize) {
+// The length of a text that is accepted; else the number and the place of its refusal.
+fn accepted<G: Grammar + Drop>(text: &[u8]) -> Result<usize, (u8, usize)> {
     let mut reader = G::fresh();
     for (place, byte) in text.iter().enumerate() {
         if let Err(refusal) = reader.take(*byte) {
-            return (refusal.number(), place);
+            return Err((refusal.number(), place));
         }
     }
     match reader.end() {
-        Ok(_) => (0, text.len()),
-        Err(refusal) => (refusal.number(), text.len()),
+        Ok(_) => Ok(text.len()),
+        Err(refusal) => Err((refusal.number(), text.len())),
     }
 }
 
 // How many words and tokens the last byte of a text gives, and how many brackets are then open.
-fn last_byte<G: Grammar + Drop>(text: &[u8]) -> (u32, u32, u32) {
+fn last_byte<G: Grammar + Drop>(text: &[u8]) -> Result<(u32, u32, u32), Refusal> {
     let mut reader = G::fresh();
     let mut given = (0, 0);
     for byte in text {
-        match reader.take(*byte) {
-            Ok(step) => given = (step.words, step.tokens),
-            Err(_) => return (0, 0, 0),
-        }
+        let step = reader.take(*byte)?;
+        given = (step.words, step.tokens);
     }
-    (given.0, given.1, reader.depth())
+    Ok((given.0, given.1, reader.depth()))
 }
 
-// A letter for the token of this number among those that the last byte of a text gives: o, b, t or e; n for none.
+// A letter for the token of this number, which spells the order of tokens in one text, among those that the last byte of a text gives: o, b, t or e; n for none.
 fn letter<G: Grammar + Drop>(text: &[u8], number: u32) -> u8 {
     let mut reader = G::fresh();
     for byte in text {
@@ -56,31 +55,31 @@ fn letter<G: Grammar + Drop>(text: &[u8], number: u32) -> u8 {
 // Bytes that no line of text has: control bytes, and bytes that are no text.
 #[test]
 fn bytes_outside_text(rt: HostRuntime) {
-    assert_eq!(rt; refusal::<JsonReader>(b"[\x00]"), (3, 1));
-    assert_eq!(rt; refusal::<JsonReader>(b"\"a\x1f\""), (3, 2));
-    assert_eq!(rt; refusal::<JsonReader>(b"\"a\nb\""), (3, 2));
-    assert_eq!(rt; refusal::<JsonReader>(b"\"\x80\xff\""), (0, 4));
-    assert_eq!(rt; refusal::<JsonReader>(b"\xef\xbb\xbf1"), (3, 0));
-    assert_eq!(rt; refusal::<JsonReader>(b"\t\r\n1\r\n"), (0, 6));
-    assert_eq!(rt; refusal::<SexprReader>(b"a\x01"), (3, 1));
-    assert_eq!(rt; refusal::<SexprReader>(b"\x80\xff"), (0, 2));
-    assert_eq!(rt; refusal::<SexprReader>(b"\"\\\x1f\""), (3, 2));
-    assert_eq!(rt; refusal::<SexprReader>(b"a\r\n(b)\n"), (0, 7));
+    assert_eq!(rt; accepted::<JsonReader>(b"[\x00]"), Err((3, 1)));
+    assert_eq!(rt; accepted::<JsonReader>(b"\"a\x1f\""), Err((3, 2)));
+    assert_eq!(rt; accepted::<JsonReader>(b"\"a\nb\""), Err((3, 2)));
+    assert_eq!(rt; accepted::<JsonReader>(b"\"\x80\xff\""), Ok(4));
+    assert_eq!(rt; accepted::<JsonReader>(b"\xef\xbb\xbf1"), Err((3, 0)));
+    assert_eq!(rt; accepted::<JsonReader>(b"\t\r\n1\r\n"), Ok(6));
+    assert_eq!(rt; accepted::<SexprReader>(b"a\x01"), Err((3, 1)));
+    assert_eq!(rt; accepted::<SexprReader>(b"\x80\xff"), Ok(2));
+    assert_eq!(rt; accepted::<SexprReader>(b"\"\\\x1f\""), Err((3, 2)));
+    assert_eq!(rt; accepted::<SexprReader>(b"a\r\n(b)\n"), Ok(7));
 }
 
 // The words and tokens of a byte, and the brackets open behind it.
 #[test]
 fn what_a_byte_gives(rt: HostRuntime) {
-    assert_eq!(rt; last_byte::<JsonReader>(b"["), (1, 2, 1));
-    assert_eq!(rt; last_byte::<JsonReader>(b"[1"), (0, 0, 1));
-    assert_eq!(rt; last_byte::<JsonReader>(b"[1]"), (2, 5, 0));
-    assert_eq!(rt; last_byte::<JsonReader>(b"[]"), (1, 2, 0));
-    assert_eq!(rt; last_byte::<JsonReader>(b"[1,"), (2, 3, 1));
-    assert_eq!(rt; last_byte::<JsonReader>(b"{\"a\""), (1, 2, 1));
-    assert_eq!(rt; last_byte::<SexprReader>(b"(a"), (0, 0, 1));
-    assert_eq!(rt; last_byte::<SexprReader>(b"(a("), (2, 4, 2));
-    assert_eq!(rt; last_byte::<SexprReader>(b"(a \"b\""), (1, 2, 1));
-    assert_eq!(rt; last_byte::<SexprReader>(b"(a)"), (2, 3, 0));
+    assert_eq!(rt; last_byte::<JsonReader>(b"["), Ok((1, 2, 1)));
+    assert_eq!(rt; last_byte::<JsonReader>(b"[1"), Ok((0, 0, 1)));
+    assert_eq!(rt; last_byte::<JsonReader>(b"[1]"), Ok((2, 5, 0)));
+    assert_eq!(rt; last_byte::<JsonReader>(b"[]"), Ok((1, 2, 0)));
+    assert_eq!(rt; last_byte::<JsonReader>(b"[1,"), Ok((2, 3, 1)));
+    assert_eq!(rt; last_byte::<JsonReader>(b"{\"a\""), Ok((1, 2, 1)));
+    assert_eq!(rt; last_byte::<SexprReader>(b"(a"), Ok((0, 0, 1)));
+    assert_eq!(rt; last_byte::<SexprReader>(b"(a("), Ok((2, 4, 2)));
+    assert_eq!(rt; last_byte::<SexprReader>(b"(a \"b\""), Ok((1, 2, 1)));
+    assert_eq!(rt; last_byte::<SexprReader>(b"(a)"), Ok((2, 3, 0)));
 }
 
 // The order of tokens: a number and the bracket behind it; an atom and an opening behind it.

@@ -1,4 +1,5 @@
-// The class of each byte, by a table.
+// The class of each byte, by a table whose cells have short names. Each grammar has a line of its own over its
+// own table: one over any table would be given the table and say no more.
 ghost use Rattle.std.specs.Prelude.{◌≡◌};
 ghost use Rattle.sexpr_language.specs.Classes.{class_of};
 

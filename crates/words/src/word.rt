@@ -4,8 +4,8 @@ ghost use Rattle.words.specs.Handed.{kind_of, placed_of};
 
 use rules::word::Kind;
 
-// Each holds its part of the text, and the place of its first byte. A word is handed out by its kind, so
-// each kind is a case.
+// Each holds its part of the text, and the place of its first byte. It is a rule of the project that callers
+// match a word by its kind, so that one who forgets a kind is told so: each kind is a case of its own.
 #[derive(Clone, Copy, PartialEq, Eq, Debug)]
 pub enum Word<'a> {
     Opening { part: &'a [u8], place: usize },

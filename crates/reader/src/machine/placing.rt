@@ -1,13 +1,13 @@
 // Words at their place.
-ghost use Rattle.std.specs.Prelude.{◌≡◌, reverse, [], ◌∷◌, ◌++◌};
+ghost use Rattle.std.specs.Prelude.{◌≡◌, reverse};
 ghost use Rattle.rules.specs.Rules.{innermost};
 ghost use Rattle.reader.specs.Pieces.{piece_at};
 ghost use Rattle.reader.specs.State.{expecting, Around};
-ghost use Rattle.reader.specs.Goes.{Gone, Collected};
+ghost use Rattle.reader.specs.Goes.{Gone};
 
 use crate::machine::Machine;
 use crate::piece::Piece;
-use crate::reader::{MOST_BYTES, MOST_OPEN};
+use crate::reader::MOST_OPEN;
 use arrayvec::ArrayVec;
 use grammar::refusal::Refusal;
 use rules::language::Language;
@@ -62,15 +62,4 @@ pub(crate) fn go(brackets: &mut ArrayVec<Bracket, MOST_OPEN>, step: Move) -> Res
             Ok(())
         }
     }
-}
-
-// Collects a byte, unless the word would be too long.
-pub(crate) fn collect(word: &mut ArrayVec<u8, MOST_BYTES>, byte: u8) -> Result<(), Refusal>
-    ensures { Collected word.old.items (word.old.items ++ byte ∷ []) word.new.items result }
-{
-    if word.is_full() {
-        return Err(Refusal::LongWord);
-    }
-    word.push(byte);
-    Ok(())
 }

@@ -5,7 +5,7 @@ ghost use Rattle.reader.specs.State.{expecting, state_of, Sound};
 ghost use Rattle.reader.specs.Goes.{Begins, Goes};
 
 use crate::machine::Machine;
-use crate::machine::placing::{collect, go};
+use crate::machine::placing::go;
 use crate::over::{Over, Own};
 use grammar::refusal::Refusal;
 use rules::language::Language;
@@ -69,13 +69,13 @@ impl<L: Language> Machine<L> {
     {
         match L::turns(inside, self.word.as_slice(), byte) {
             Turn::Stays(next) => {
-                collect(&mut self.word, byte)?;
+                self.word.collect(byte)?;
                 self.inside = Some(next);
                 Ok(Over::default())
             }
             Turn::Closes => {
                 let piece = self.around(inside);
-                collect(&mut self.word, byte)?;
+                self.word.collect(byte)?;
                 self.expects = piece.behind();
                 self.inside = None;
                 Ok(Over {

@@ -12,7 +12,7 @@ use rules::language::Language;
 use std::ops::ControlFlow;
 
 impl<'a, L: Language> Words<'a, L> {
-    // Before the first byte of this text.
+    // A word reader before the first byte of this text.
     pub fn new(text: &'a [u8]) -> Words<'a, L>
         ensures text { result.text ≡ text.now }
         ensures left { result.left ≡ story_of L.Language.rules text.now }

@@ -10,7 +10,7 @@ use Rattle.reader.proofs.machine.Machine.within.Goals as goal
 pub invariant_of-self-in-Stays : goal.invariant_of-self-in-Stays
 invariant_of-self-in-Stays g c =
     let r = g.L.Language.rules in
-    let m = record c.self.inside { inside = Some c.in-Stays.next; word = c.collect.new.word } in
+    let m = record c.self.inside { inside = Some c.in-Stays.next; word = c.collect.new.self } in
     sound_went r (state_of c.args.self.now) c.args.byte (at_rest (state_of (held_of m))) (subst (λ (x : Held). Sound r (state_of x)) c.self.view_is c.self.invariant) (search rules)
 
 pub invariant_of-self-in-Closes : goal.invariant_of-self-in-Closes
