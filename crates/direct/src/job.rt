@@ -1,6 +1,6 @@
 // A direct job that is open, and one that is drained. Neither can be let go: an open job is drained,
 // and a drained one hands its sink back.
-ghost use Rattle.std.specs.Prelude.{◌≤◌};
+ghost use Rattle.std.specs.Prelude.{◌≤◌, length};
 
 use crate::fault::DirectFault;
 use crate::outcome::Outcome;
@@ -29,6 +29,7 @@ pub struct DirectJob<S> {
     // the token numbers of the open blocks' Openings, the innermost last
     blocks: ArrayVec<u32, BLOCKS>,
     fault: Option<DirectFault>,
+    ghost deep: { length blocks.items ≤ 64 },
     ghost few: { given ≤ 1000000 },
 }
 

@@ -1,19 +1,14 @@
-use Rattle.std.proofs.Common.{◌≡◌, ℕ, ◌<◌, true, List, [], ◌∷◌, ◌++◌, sym, ap, ◌∙◌, arith}
-use Rattle.std.proofs.lemmas.Result.{MatchResult-at_ok}
-use Rattle.sink.proofs.Kept.{kept_all}
-use Rattle.printer.proofs.Advances.{numbered_ok}
-use Rattle.printer.proofs.Ending.{ended_some}
+use Rattle.std.proofs.Common.{◌≡◌, Ok, [], ◌∷◌, arith}
+use Rattle.printer.specs.Writing.{Wrote}
+use Rattle.printer.proofs.Advances.{wrote_whole}
+use Rattle.printer.proofs.Ending.{end_some}
 use Rattle.printer.proofs.printer.Printer.end_line.Goals as goal
 
 pub returns-clause-ends : goal.returns-clause-ends
 returns-clause-ends g c m pen h number out pr =
     let k = g.S.Sink in
     let s = c.args.sink.now in
-    let e = c.write_line.ensures in
-    let ok = numbered_ok c.args.self.now.passed c.write_line.result _ (sym c.at_token.ensures ∙ c.in_ok-at_token.was) in
-    let fit : (k.rule s).admits (k.text s ++ 10 ∷ []) ≡ true = MatchResult-at_ok _ _ _ ok e.cases in
+    let w : Wrote (k.rule s) (k.text s) (10 ∷ []) c.args.self.now.older (k.text c.write_line.new.sink) c.write_line.result = record { stands = c.write_line.ensures.text; cases = c.write_line.ensures.cases } in
+    let ok : c.write_line.result ≡ Ok tt = grind arith in
     let n = pr.passed in
-    let some : 0 < number = omega (arith, c.if-self-eq0.false) in
-    ended_some m number out (k.rule s) (k.text s) c.args.self.now.older _ _ some fit
-    (e.text ∙ ap (λ (xs : List ℕ). k.text s ++ xs) (kept_all (k.rule s).admits (g.met.S.Sink.laws.beginnings s) (k.text s) (10 ∷ []) fit))
-    (_, c.broke.ensures m pen out pr.stands)
+    rw (end_some number (omega (arith, c.if-self-eq0.false))) (wrote_whole (g.met.S.Sink.laws.beginnings s) ok w, (_, c.broke.ensures m pen out pr.stands))
