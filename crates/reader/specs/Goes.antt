@@ -12,7 +12,7 @@ use Rattle.reading.specs.Accepts.{at}
 use Rattle.reader.specs.declared.over.Own.{Own}
 use Rattle.reader.specs.declared.over.Over.{Over}
 use Rattle.reader.specs.Pieces.{own_word, own_tokens}
-use Rattle.reader.specs.State.{Held, state_of, Reading, reading, at_rest}
+use Rattle.reader.specs.State.{Held, state_of, Sound, Reading, reading, at_rest}
 
 -- the brackets behind a word that does this, if they are not too many
 abbrev pub Gone : Move → List Bracket → List Bracket → Result (Unit {0}) Refusal → Type 0
@@ -29,6 +29,10 @@ pub record Went (r : Rules) (s : State) (b : ℕ) (v : Reading) : Type 0 where
   pub stepped : step r s b ≡ on v.state.inside v.state.word v.ended
   pub place : v.state.place ≡ behind_all r s.place v.ended
   pub answered : judged r s (step r s b) ≡ gives v.ended v.given
+
+-- a byte that is taken leads from a sound state to a sound one
+abbrev pub StaysSound : Rules → Type 0
+StaysSound r = (s : State) (b : ℕ) (v : Reading) → Sound r s → Went r s b v → Sound r v.state
 
 -- a byte between words, at the place p
 abbrev pub Begins : Rules → Place → ℕ → Held → Held → Result (Option Own) Refusal → Type 0

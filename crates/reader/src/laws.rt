@@ -1,9 +1,19 @@
-// What is told of a word that ended says where it stands.
+// What is told of a word that ended says where it stands; and what every reader keeps.
+ghost use Rattle.rules.specs.Machine.{fresh};
 ghost use Rattle.reader.specs.Endings.{OwnIsLast};
+ghost use Rattle.reader.specs.Goes.{StaysSound};
+ghost use Rattle.reader.specs.State.{Sound};
 
 use rules::language::Language;
 
 // A word with a last byte of its own ends with the byte that ended it; any other is over before it.
 pub fn own_is_last<L: Language>()
     ensures { OwnIsLast L.Language.rules }
+{}
+
+// A fresh reader's state is sound, and so is the state behind each byte that is taken: so `own_is_last` holds at
+// every state that a reader comes to.
+pub fn readers_are_sound<L: Language>()
+    ensures fresh { Sound L.Language.rules (fresh L.Language.rules) }
+    ensures stays { StaysSound L.Language.rules }
 {}
