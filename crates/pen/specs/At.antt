@@ -4,13 +4,14 @@ use Rattle.layout.specs.declared.token.Block.{Block}
 use Rattle.layout.specs.Margins.{kept_column}
 use Rattle.layout.specs.Layout.{Pen as LayoutPen, innermost, stays, blanks, next_indent}
 use Rattle.lines.specs.Lines.{newlines, widest, last_line}
+use Rattle.queue.specs.Items.{items}
 use Rattle.pen.specs.declared.breaking.Breaking.{Breaking}
 use Rattle.pen.specs.declared.breaking.Breaking.TheVariants.{Blanks, Line}
 use Rattle.pen.specs.declared.pen.Pen.{Pen}
 
 -- the open blocks, the innermost first
 abbrev pub open_blocks : Pen → List Block
-open_blocks p = reverse p.blocks.items
+open_blocks p = reverse (items p.blocks)
 
 -- the program's pen stands where the layout's pen stands, at the margin m and after the text `out` was written
 pub record At (m : ℕ) (pen : LayoutPen) (out : List ℕ) (p : Pen) : Type 0 where

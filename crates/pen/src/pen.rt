@@ -1,23 +1,25 @@
 // The pen that writes a layout: its margin, its column, which stops at 65,535, its open blocks, at
 // most 64, the last one innermost, and the newlines and the widest line written so far.
-ghost use Rattle.std.specs.Prelude.{◌≡◌};
+ghost use Rattle.std.specs.Prelude.{◌≡◌, ◌≤◌, length};
+ghost use Rattle.queue.specs.Items.{items};
 
-use arrayvec::ArrayVec;
 use layout::margin::Margin;
 use layout::token::Block;
+use queue::Queue;
 
 pub mod writing;
 
 // The most blocks that are open at once.
 pub const BLOCKS: usize = 64;
 
-#[derive(Clone, Drop)]
+#[derive(Clone, Copy)]
 pub struct Pen {
     margin: Margin,
     column: u16,
     widest: u16,
     newlines: u64,
-    blocks: ArrayVec<Block, BLOCKS>,
+    blocks: Queue<Block, BLOCKS>,
+    ghost few: { length (items blocks) ≤ 64 },
 }
 
 impl Pen {

@@ -9,7 +9,7 @@ pub mod passing;
 
 // What it has printed (`Prints`) stays a premise of its calls, since the unbounded numbers and the text
 // written are in no field; and each call says that `older` stays, since a type speaks of one value alone.
-#[derive(Clone, Drop)]
+#[derive(Clone, Copy)]
 pub struct Printer {
     scan: Scan,
     pen: Pen,

@@ -7,6 +7,7 @@ use Rattle.stream.specs.Recorded.{extent, slotted, recorded, text_of, texts, dee
 use Rattle.stream.specs.Settling.{keeps}
 use Rattle.stream.proofs.Nests.{quiet, nest_append}
 use Rattle.stream.proofs.Settles.{own, recorded_quiet, waits_quiet, mixed_break, waits_break}
+use Rattle.queue.specs.Items.{items}
 use Rattle.scan.specs.declared.scan.Scan.{Scan}
 use Rattle.scan.specs.Holding.{Counts, Holds, Settling}
 
@@ -26,41 +27,47 @@ pub length_waits : (k b d : ℕ) (h : List Token) → length (waits k b d h) ≤
 length_waits k b d [] = omega arith
 length_waits k b d (t ∷ ts) = let ih = length_waits (suc k) (b + width t) (deeper d t) ts in grind (arith, common_steps)
 
--- s with a token and its places more
-abbrev pub more : Scan → Token → List Place → Scan
-more s x ps = record s { slots = s.slots ++ slotted x (extent x []) ∷ []; texts = s.texts ++ text_of x; places = s.places ++ ps; depth = nest s.depth (x ∷ []); total = wrapped (s.total + width x) }
+-- s' is s with a token and its places more
+pub record More (s : Scan) (x : Token) (ps : List Place) (s' : Scan) : Type 0 where
+  pub slots : items s'.slots ≡ items s.slots ++ slotted x (extent x []) ∷ []
+  pub texts : items s'.texts ≡ items s.texts ++ text_of x
+  pub places : items s'.places ≡ items s.places ++ ps
+  pub depth : s'.depth ≡ nest s.depth (x ∷ [])
+  pub total : s'.total ≡ wrapped (s.total + width x)
+  pub serial : s'.serial ≡ s.serial
+  pub base : s'.base ≡ s.base
 
-counts_more : (k b d : ℕ) (h : List Token) (x : Token) (ps : List Place) (s s' : Scan) → Counts k b d h s → widths h + width x < 65536 → s' ≡ more s x ps → Counts k b d (h ++ x ∷ []) s'
+counts_more : (k b d : ℕ) (h : List Token) (x : Token) (ps : List Place) (s s' : Scan) → Counts k b d h s → widths h + width x < 65536 → More s x ps s' → Counts k b d (h ++ x ∷ []) s'
 counts_more k b d h x ps s s' c room e =
     record {
-      serial = grind (arith, common_steps);
-      gone = grind (arith, common_steps);
-      total = grind (arith, common_steps, widths_append);
-      texts = grind (arith, common_steps, texts_append);
-      depth = grind (arith, common_steps, nest_append);
+      serial = e.serial ∙ c.serial;
+      gone = e.base ∙ c.gone;
+      total = grind (arith, common_steps, widths_append, e.total, c.total);
+      texts = grind (arith, common_steps, texts_append, e.texts, c.texts);
+      depth = grind (arith, common_steps, nest_append, e.depth, c.depth);
       room = grind (arith, common_steps, widths_append);
     }
 
 -- a token that is no Break comes
 pub come_quiet : (k d : ℕ) (h : List Token) (x : Token) (s s' : Scan) (hold : Holds k d h s) → quiet x ≡ true → widths h + width x < 65536
-    → s' ≡ more s x (own (k + length h) (hold.base + widths h) (nest d h) x)
+    → More s x (own (k + length h) (hold.base + widths h) (nest d h) x) s'
     → Holds k d (h ++ x ∷ []) s'
 come_quiet k d h x s s' hold q room e =
     record {
       base = hold.base;
       counts = counts_more k hold.base d h x _ s s' hold.counts room e;
-      slots = grind (arith, common_steps, recorded_quiet);
-      places = grind (arith, common_steps, waits_quiet);
+      slots = grind (arith, common_steps, recorded_quiet, e.slots, hold.slots);
+      places = grind (arith, common_steps, waits_quiet, e.places, hold.places);
     }
 
 -- a Break comes, once it has settled what it settles
 pub come_break : (k b d : ℕ) (h : List Token) (n : ℕ) (o : ℤ) (s s' : Scan) → Settling k b d h (keeps h) s → widths h + n < 65536
-    → s' ≡ more s (Break n o) (place (k + length h) (b + widths h) (nest d h) ∷ [])
+    → More s (Break n o) (place (k + length h) (b + widths h) (nest d h) ∷ []) s'
     → Holds k d (h ++ Break n o ∷ []) s'
 come_break k b d h n o s s' stl room e =
     record {
       base = b;
       counts = counts_more k b d h (Break n o) _ s s' stl.counts room e;
-      slots = grind (arith, common_steps, mixed_break);
-      places = grind (arith, common_steps, waits_break);
+      slots = grind (arith, common_steps, mixed_break, e.slots, stl.slots);
+      places = grind (arith, common_steps, waits_break, e.places, stl.places);
     }

@@ -13,7 +13,7 @@ pub const MOST_BYTES: usize = 512;
 
 // Which tokens the queues hold (`Holds`) stays a fact of the contracts: no field has the first token's full
 // number or the blocks open before it, so an invariant cannot name them.
-#[derive(Clone, Debug, Drop)]
+#[derive(Clone, Copy, Debug)]
 pub struct Scan {
     slots: Queue<Slot, MOST>,
     texts: Queue<u8, MOST_BYTES>,

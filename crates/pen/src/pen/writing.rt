@@ -11,9 +11,9 @@ ghost use Rattle.pen.specs.At.{At, open_blocks, breaking, bytes_of, column_after
 use crate::breaking::Breaking;
 use crate::indent::indentation;
 use crate::pen::Pen;
-use arrayvec::ArrayVec;
 use layout::margin::Margin;
 use layout::token::{Anchor, Block, Break, Fold, Opening};
+use queue::Queue;
 
 impl Pen {
     // The pen before anything is written.
@@ -25,7 +25,7 @@ impl Pen {
             column: 0,
             widest: 0,
             newlines: 0,
-            blocks: ArrayVec::new(),
+            blocks: Queue::new(Block::OUTERMOST),
         }
     }
 
@@ -80,31 +80,25 @@ impl Pen {
         ensures opens { (m : ℕ) (pen : LayoutPen) (out : List ℕ) → At m pen out self.old → length pen.blocks < 64 → At m (after m pen (OpeningToken opening.offset opening.fold opening.anchor) fits) out self.new }
         ensures full { (m : ℕ) (pen : LayoutPen) (out : List ℕ) → At m pen out self.old → 64 ≤ length pen.blocks → self.new ≡ self.old }
     {
-        if !self.blocks.is_full() {
-            let base = self.base(opening.anchor);
-            self.blocks.push(Block {
-                fold: fold_of(fits, opening.fold),
-                indent: indentation(base, opening.offset, self.margin),
-            });
-        }
+        let base = self.base(opening.anchor);
+        let _ = self.blocks.push_back(Block {
+            fold: fold_of(fits, opening.fold),
+            indent: indentation(base, opening.offset, self.margin),
+        });
     }
 
     // The last open block ends. Where none is open, nothing changes.
     pub fn end_block(&mut self)
         ensures { (m : ℕ) (pen : LayoutPen) (out : List ℕ) (fits : Bool) → At m pen out self.old → At m (after m pen EndingToken fits) out self.new }
     {
-        self.blocks.pop();
+        self.blocks.pop_back();
     }
 
     // The innermost open block, or the outermost one where none is open.
     fn current(&self) -> Block
         ensures { result ≡ innermost (open_blocks self.now) }
     {
-        self.blocks
-            .as_slice()
-            .last()
-            .copied()
-            .unwrap_or(Block::OUTERMOST)
+        self.blocks.back().unwrap_or(Block::OUTERMOST)
     }
 
     // The base of the indentation of a block that opens here.

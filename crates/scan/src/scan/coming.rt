@@ -1,11 +1,12 @@
 // Tokens come in at the back.
 ghost use Rattle.std.specs.Prelude.{◌≡◌, ℕ, suc, ◌+◌, ◌<◌, ◌≤◌, true, List, [], ◌∷◌, ◌++◌, length, IfSome, MatchBool, slice_get, slice_set};
+ghost use Rattle.queue.specs.Items.{items};
 ghost use Rattle.layout.specs.Tokens.{Token, Text, Break, Opening, Ending, widths, nest};
 ghost use Rattle.stream.specs.Recorded.{texts, place};
 ghost use Rattle.stream.specs.Settling.{keeps};
 ghost use Rattle.scan.specs.Holding.{Counts, Holds, Settling};
 
-use crate::scan::{MOST, MOST_BYTES, Scan};
+use crate::scan::{MOST_BYTES, Scan};
 use layout::token;
 use queue::Queue;
 use stream::record::{Held, Place, Slot};
@@ -32,7 +33,7 @@ impl Scan {
 
     // A Text comes: its bytes wait beside its record.
     pub fn push_text(&mut self, bytes: &[u8])
-        ensures { (k d : ℕ) (h : List Token) → Holds k d h self.old → length h < MOST → length (texts h) + length bytes.now ≤ MOST_BYTES → widths h + length bytes.now < 65536 → Holds k d (h ++ Text bytes.now ∷ []) self.new }
+        ensures { (k d : ℕ) (h : List Token) → Holds k d h self.old → length h < 384 → length (texts h) + length bytes.now ≤ 512 → widths h + length bytes.now < 65536 → Holds k d (h ++ Text bytes.now ∷ []) self.new }
     {
         let width = bytes.len().min(MOST_BYTES) as u16;
         self.push_free(Held::Text(width));
@@ -42,7 +43,7 @@ impl Scan {
 
     // A Break comes: it is the reach of the tokens that it settles, and waits for its own.
     pub fn push_break(&mut self, token: token::Break)
-        ensures { (k d : ℕ) (h : List Token) → Holds k d h self.old → length h < MOST → widths h + token.blanks < 65536 → Holds k d (h ++ Break token.blanks token.offset ∷ []) self.new }
+        ensures { (k d : ℕ) (h : List Token) → Holds k d h self.old → length h < 384 → widths h + token.blanks < 65536 → Holds k d (h ++ Break token.blanks token.offset ∷ []) self.new }
     {
         self.settle();
         self.push_waiting(Held::Break(token));
@@ -51,7 +52,7 @@ impl Scan {
 
     // An Opening comes: it waits for its reach, and one block more is open.
     pub fn push_opening(&mut self, token: token::Opening)
-        ensures { (k d : ℕ) (h : List Token) → Holds k d h self.old → length h < MOST → nest d h < 255 → Holds k d (h ++ Opening token.offset token.fold token.anchor ∷ []) self.new }
+        ensures { (k d : ℕ) (h : List Token) → Holds k d h self.old → length h < 384 → nest d h < 255 → Holds k d (h ++ Opening token.offset token.fold token.anchor ∷ []) self.new }
     {
         self.push_waiting(Held::Opening(token));
         self.depth = self.depth.saturating_add(1);
@@ -59,7 +60,7 @@ impl Scan {
 
     // An Ending comes: one block fewer is open.
     pub fn push_ending(&mut self)
-        ensures { (k d : ℕ) (h : List Token) → Holds k d h self.old → length h < MOST → Holds k d (h ++ Ending ∷ []) self.new }
+        ensures { (k d : ℕ) (h : List Token) → Holds k d h self.old → length h < 384 → Holds k d (h ++ Ending ∷ []) self.new }
     {
         self.push_free(Held::Ending);
         self.depth = self.depth.saturating_sub(1);
@@ -67,7 +68,8 @@ impl Scan {
 
     // The record of a token that waits for nothing.
     fn push_free(&mut self, token: Held)
-        ensures { length self.old.slots < MOST → self.new ≡ record self.old { slots = self.old.slots ++ (record { token = token; size = Some 0 }) ∷ [] } }
+        ensures slots { length (items self.old.slots) < 384 → items self.new.slots ≡ items self.old.slots ++ (record { token = token; size = Some 0 }) ∷ [] }
+        ensures others { self.new ≡ record self.old { slots = self.new.slots } }
     {
         let _ = self.slots.push_back(Slot {
             token,
@@ -77,7 +79,9 @@ impl Scan {
 
     // The record and the place of a token that waits for its reach.
     fn push_waiting(&mut self, token: Held)
-        ensures { (k b d : ℕ) (h : List Token) → Counts k b d h self.old → length self.old.slots ≡ length h → length self.old.places ≤ length h → length h < MOST → self.new ≡ record self.old { slots = self.old.slots ++ (record { token = token; size = None }) ∷ []; places = self.old.places ++ place (k + length h) (b + widths h) (nest d h) ∷ [] } }
+        ensures slots { length (items self.old.slots) < 384 → items self.new.slots ≡ items self.old.slots ++ (record { token = token; size = None }) ∷ [] }
+        ensures places { (k b d : ℕ) (h : List Token) → Counts k b d h self.old → length (items self.old.slots) ≡ length h → length (items self.old.places) ≤ length h → length h < 384 → items self.new.places ≡ items self.old.places ++ place (k + length h) (b + widths h) (nest d h) ∷ [] }
+        ensures others { self.new ≡ record self.old { slots = self.new.slots; places = self.new.places } }
     {
         let place = self.next_place();
         let _ = self.slots.push_back(Slot { token, size: None });
@@ -86,7 +90,7 @@ impl Scan {
 
     // The place of the token that comes next.
     fn next_place(&self) -> Place
-        ensures { (k b d : ℕ) (h : List Token) → Counts k b d h self.now → length self.now.slots ≡ length h → result ≡ place (k + length h) (b + widths h) (nest d h) }
+        ensures { (k b d : ℕ) (h : List Token) → Counts k b d h self.now → length (items self.now.slots) ≡ length h → result ≡ place (k + length h) (b + widths h) (nest d h) }
     {
         Place {
             serial: self.serial.wrapping_add(self.slots.len() as u16),
@@ -105,7 +109,7 @@ impl Scan {
     // Settles the last waiting token, if no block is open that was opened at it or after it.
     fn settle_last(&mut self) -> bool
         ensures settles { (k b d : ℕ) (h : List Token) (c : ℕ) → Settling k b d h c self.old → MatchBool result ((n : ℕ) × (c ≡ suc n) × Settling k b d h n self.new) ((c ≡ keeps h) × Settling k b d h c self.new) }
-        ensures fewer { result ≡ true → length self.new.places < length self.old.places }
+        ensures fewer { result ≡ true → length (items self.new.places) < length (items self.old.places) }
     {
         let Some(place) = self.places.back() else {
             return false;
@@ -122,9 +126,9 @@ impl Scan {
 
     // The size of the token that has `at` others before it is known.
     fn know_size(&mut self, at: usize, size: u16)
-        ensures sized { IfSome (slice_get self.old.slots at) (λ slot. self.new.slots ≡ slice_set self.old.slots at (record slot { size = Some size })) }
+        ensures sized { IfSome (slice_get (items self.old.slots) at) (λ slot. items self.new.slots ≡ slice_set (items self.old.slots) at (record slot { size = Some size })) }
         ensures others { self.new ≡ record self.old { slots = self.new.slots } }
-        ensures most { length self.old.slots ≤ MOST }
+        ensures most { length (items self.old.slots) ≤ 384 }
     {
         if let Some(slot) = self.slots.get(at) {
             let size = Some(size);

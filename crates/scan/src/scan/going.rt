@@ -5,14 +5,14 @@ ghost use Rattle.stream.specs.Recorded.{deeper, texts};
 ghost use Rattle.scan.specs.Holding.{Holds};
 ghost use Rattle.scan.specs.First.{First, places_of, bytes_of, columns_of};
 
-use crate::scan::{MOST, Scan};
+use crate::scan::Scan;
 use stream::record::{Held, Slot};
 
 impl Scan {
     // How many tokens are held.
     pub fn count(&self) -> usize
         ensures value { (k d : ℕ) (h : List Token) → Holds k d h self.now → result ≡ length h }
-        ensures most { result ≤ MOST }
+        ensures most { result ≤ 384 }
     {
         self.slots.len()
     }
