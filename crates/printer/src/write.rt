@@ -14,6 +14,7 @@ pub(crate) fn write_breaking<S: Sink>(
     older: usize,
     how: Breaking,
 ) -> Result<(), SinkFault>
+    ensures rule { S.Sink.rule sink.new ≡ S.Sink.rule sink.old }
     ensures later { S.Sink.later sink.old sink.new }
     ensures writes { Wrote (S.Sink.rule sink.old) (S.Sink.text sink.old) (bytes_of how) older (S.Sink.text sink.new) result }
 {

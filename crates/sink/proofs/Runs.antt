@@ -1,5 +1,5 @@
 -- One run behind another: what two writes leave is what one write of both runs leaves.
-use Rattle.std.proofs.Common.{◌≡◌, ℕ, ◌+◌, ◌<◌, true, List, [], ◌∷◌, ◌++◌, length, get_or, take, drop, Result, Ok, Err, sym, ap, ◌∙◌, arith, MatchResult}
+use Rattle.std.proofs.Common.{◌≡◌, ℕ, ◌+◌, ◌<◌, true, List, [], ◌∷◌, ◌++◌, length, get_or, take, drop, Result, Ok, Err, sym, refl, ap, ◌∙◌, arith, MatchResult}
 use lib.Seq.{take-append-add}
 use Rattle.std.proofs.lemmas.List.{append-nil, append_assoc, length-append, take-append-drop, take-append-le, take_more}
 use Rattle.std.proofs.lemmas.Result.{MatchResult-weaker}
@@ -46,14 +46,15 @@ module _ (rule now_rule : Rule) (beg : Beginnings rule.admits) (before xs ys t :
       rw (same, whole) (λ h. MatchResult-weaker r h (λ _ ok. rw (← append_assoc before xs ys) ok) (λ f cut. cut_behind rule beg before xs ys older f fits cut))
 
 -- Runs written into any sink, one behind another.
-module _ {S : Type 0} (text_of : S → List ℕ) (rule : S → Rule) (later : S → S → Type 0) (laws : Laws text_of rule later) where
+module _ {S : Type 0} (text_of : S → List ℕ) (rule_of : S → Rule) (later : S → S → Type 0) (laws : Laws text_of rule_of later) where
   -- a run was written into s, which is t now, with the answer r
   abbrev pub Ran : S → List ℕ → ℕ → S → Result (Unit {0}) SinkFault → Type 0
-  Ran s bytes older t r = record { later : later s t; text : Leaves text_of rule s bytes t; cases : Answers text_of rule s bytes older r }
+  Ran s bytes older t r = record { rule : rule_of t ≡ rule_of s; later : later s t; text : Leaves text_of rule_of s bytes t; cases : Answers text_of rule_of s bytes older r }
 
   pub ran_none : (s : S) (older : ℕ) → Ran s [] older s (Ok tt)
   ran_none s older =
       record {
+        rule = refl;
         later = laws.stays s;
         text = sym (append-nil (text_of s));
         cases = rw append-nil (laws.held s);
@@ -63,19 +64,20 @@ module _ {S : Type 0} (text_of : S → List ℕ) (rule : S → Rule) (later : S 
   pub ran_front : (s t : S) (xs ys : List ℕ) (older : ℕ) (f : SinkFault) → Ran s xs older t (Err f) → Ran s (xs ++ ys) older t (Err f)
   ran_front s t xs ys older f ran =
       record {
+        rule = ran.rule;
         later = ran.later;
-        text = stands_front (rule s) (laws.beginnings s) (text_of s) xs ys (text_of t) older f (laws.held s) ran.cases ran.text;
-        cases = cut_front (rule s) (laws.beginnings s) (text_of s) xs ys older f (laws.held s) ran.cases;
+        text = stands_front (rule_of s) (laws.beginnings s) (text_of s) xs ys (text_of t) older f (laws.held s) ran.cases ran.text;
+        cases = cut_front (rule_of s) (laws.beginnings s) (text_of s) xs ys older f (laws.held s) ran.cases;
       }
 
   -- the first was written whole, and then the second
   pub ran_both : (s t u : S) (xs ys : List ℕ) (older : ℕ) (r : Result (Unit {0}) SinkFault) → Ran s xs older t (Ok tt) → Ran t ys older u r → Ran s (xs ++ ys) older u r
   ran_both s t u xs ys older r first rest =
-      let same = laws.keeps s t first.later in
       record {
+        rule = rest.rule ∙ first.rule;
         later = laws.goes s t u first.later rest.later;
-        text = stands_behind (rule s) (rule t) (laws.beginnings s) (text_of s) xs ys (text_of t) same first.cases first.text (text_of u) rest.text;
-        cases = cases_behind (rule s) (rule t) (laws.beginnings s) (text_of s) xs ys (text_of t) same first.cases first.text r older rest.cases;
+        text = stands_behind (rule_of s) (rule_of t) (laws.beginnings s) (text_of s) xs ys (text_of t) first.rule first.cases first.text (text_of u) rest.text;
+        cases = cases_behind (rule_of s) (rule_of t) (laws.beginnings s) (text_of s) xs ys (text_of t) first.rule first.cases first.text r older rest.cases;
       }
 
   -- a run of bytes of which i were written, and then one more

@@ -22,13 +22,12 @@ abbrev pub told : ℕ → Refusal → Reason
 told k (Own n) = record { number = n; kind = k }
 told k (Below n j) = record { number = n; kind = j }
 
--- The laws of a sink: its rule admits with a text each beginning of it, and the text held; what becomes of a sink is an order, and keeps the rule.
+-- The laws of a sink: its rule admits with a text each beginning of it, and the text held; what becomes of a sink is an order.
 pub record Laws {S : Type 0} (text : S → List ℕ) (rule : S → Rule) (later : S → S → Type 0) : Type 0 where
   pub beginnings : (s : S) → Beginnings (rule s).admits
   pub held : (s : S) → (rule s).admits (text s) ≡ true
   pub stays : (s : S) → later s s
   pub goes : (s t u : S) → later s t → later t u → later s u
-  pub keeps : (s t : S) → later s t → rule t ≡ rule s
 
 -- A byte was taken: the longer text is admitted, and is held now.
 pub record Taken (admits : List ℕ → Bool) (before : List ℕ) (byte : ℕ) (after : List ℕ) : Type 0 where

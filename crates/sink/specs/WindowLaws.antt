@@ -30,6 +30,10 @@ same_rule xs ys e =
     let F : ℕ → Rule = λ n. record { admits = λ zs. nat_le (length zs) (min n 32768); reason = λ zs. record { number = 10; kind = 1 } } in
     ap F e
 
+-- So what becomes of a window keeps its rule.
+pub window_keeps : (s t : Window) → Later s t → rule_of t ≡ rule_of s
+window_keeps s t l = same_rule s.buffer.now t.buffer.now l.size
+
 -- The laws of sinks, for windows.
 pub window_laws : Laws text_of rule_of Later
 window_laws =
@@ -38,5 +42,4 @@ window_laws =
       held = λ w. le-leb _ _ (omega (arith, length-take w.len w.buffer.now, w.within));
       stays = λ w. record { loan = refl; size = refl; front = begins_self (text_of w); past = refl };
       goes = goes;
-      keeps = λ s t l. same_rule s.buffer.now t.buffer.now l.size;
     }

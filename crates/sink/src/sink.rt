@@ -27,8 +27,10 @@ pub trait Sink {
     fn len(&self) -> usize
         ensures { result ≡ length (text self.now) };
 
-    // Adds a byte to the text, or refuses it and changes nothing.
+    // Adds a byte to the text, or refuses it and changes nothing. That the rule stays is a clause here and of each call that writes, since a law
+    // that `later` keeps it would ask more of every sink.
     fn put(&mut self, byte: u8) -> Result<(), Refusal>
+        ensures rule { rule self.new ≡ rule self.old }
         ensures later { later self.old self.new }
         ensures cases { MatchResult result (λ _. Taken (rule self.old).admits (text self.old) byte (text self.new)) (λ e. Barred (rule self.old).admits (text self.old) byte × (self.new ≡ self.old) × (told kind e ≡ (rule self.old).reason (text self.old ++ byte ∷ []))) };
 

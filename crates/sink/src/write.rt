@@ -24,6 +24,7 @@ pub fn sink_fault<S: Sink>(refusal: Refusal, text: usize) -> SinkFault
 
 // Writes one byte.
 fn write_byte<S: Sink>(sink: &mut S, older: usize, byte: u8) -> Result<(), SinkFault>
+    ensures rule { S.Sink.rule sink.new ≡ S.Sink.rule sink.old }
     ensures later { S.Sink.later sink.old sink.new }
     ensures text { Leaves S.Sink.text S.Sink.rule sink.old (byte ∷ []) sink.new }
     ensures cases { Answers S.Sink.text S.Sink.rule sink.old (byte ∷ []) older result }
@@ -34,6 +35,7 @@ fn write_byte<S: Sink>(sink: &mut S, older: usize, byte: u8) -> Result<(), SinkF
 // Writes a run of bytes. `older` is the length of the text that stood before this print; it and the sink stay two parameters, since a struct
 // that borrows the sink for each call is no plainer.
 pub fn write<S: Sink>(sink: &mut S, older: usize, bytes: &[u8]) -> Result<(), SinkFault>
+    ensures rule { S.Sink.rule sink.new ≡ S.Sink.rule sink.old }
     ensures later { S.Sink.later sink.old sink.new }
     ensures text { Leaves S.Sink.text S.Sink.rule sink.old bytes.now sink.new }
     ensures cases { Answers S.Sink.text S.Sink.rule sink.old bytes.now older result }
@@ -51,6 +53,7 @@ pub fn write_both<S: Sink>(
     first: &[u8],
     second: &[u8],
 ) -> Result<(), SinkFault>
+    ensures rule { S.Sink.rule sink.new ≡ S.Sink.rule sink.old }
     ensures later { S.Sink.later sink.old sink.new }
     ensures text { Leaves S.Sink.text S.Sink.rule sink.old (first.now ++ second.now) sink.new }
     ensures cases { Answers S.Sink.text S.Sink.rule sink.old (first.now ++ second.now) older result }
@@ -70,6 +73,7 @@ fn blanks(n: u8) -> &'static [u8]
 
 // Writes n blanks, as one run.
 pub fn write_blanks<S: Sink>(sink: &mut S, older: usize, n: u8) -> Result<(), SinkFault>
+    ensures rule { S.Sink.rule sink.new ≡ S.Sink.rule sink.old }
     ensures later { S.Sink.later sink.old sink.new }
     ensures text { Leaves S.Sink.text S.Sink.rule sink.old (replicate n 32) sink.new }
     ensures cases { Answers S.Sink.text S.Sink.rule sink.old (replicate n 32) older result }
@@ -79,6 +83,7 @@ pub fn write_blanks<S: Sink>(sink: &mut S, older: usize, n: u8) -> Result<(), Si
 
 // Writes a newline and n blanks, as one run.
 pub fn write_line<S: Sink>(sink: &mut S, older: usize, n: u8) -> Result<(), SinkFault>
+    ensures rule { S.Sink.rule sink.new ≡ S.Sink.rule sink.old }
     ensures later { S.Sink.later sink.old sink.new }
     ensures text { Leaves S.Sink.text S.Sink.rule sink.old (10 ∷ replicate n 32) sink.new }
     ensures cases { Answers S.Sink.text S.Sink.rule sink.old (10 ∷ replicate n 32) older result }

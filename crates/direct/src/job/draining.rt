@@ -14,6 +14,7 @@ use sink::sink::Sink;
 impl<S: Sink> DirectJob<S> {
     // Ends the document and turns the open job into a drained one.
     pub fn drain(mut self) -> Drained<S>
+        ensures rule { S.Sink.rule result.sink ≡ S.Sink.rule self.sink }
         ensures later { S.Sink.later self.sink result.sink }
         ensures drains { (s : Start) (calls : List Call) → Stands s calls (seen S.Sink.text S.Sink.rule self) → (result.outcome ≡ outcome_of s (course s calls)) × (S.Sink.text result.sink ≡ s.older ++ left s (course s calls)) }
         ensures whole { (s : Start) (calls : List Call) → Stands s calls (seen S.Sink.text S.Sink.rule self) → WholeExactly s calls result.outcome }
@@ -33,6 +34,7 @@ impl<S: Sink> DirectJob<S> {
 
     // Writes the rest of the print and its end, if no fault came and no block is open.
     fn finish(&mut self) -> Outcome
+        ensures rule { S.Sink.rule self.new.sink ≡ S.Sink.rule self.old.sink }
         ensures later { S.Sink.later self.old.sink self.new.sink }
         ensures finishes { (s : Start) (calls : List Call) → Stands s calls (seen S.Sink.text S.Sink.rule self.old) → Closed s (course s calls) (S.Sink.text self.new.sink) result }
     {

@@ -27,6 +27,7 @@ impl<S: Sink> DirectJob<S> {
 
     // Hands a token to the printer, and counts it.
     fn lay(&mut self, token: Token<&[u8]>) -> Result<(), DirectFault>
+        ensures rule { S.Sink.rule self.new.sink ≡ S.Sink.rule self.old.sink }
         ensures later { S.Sink.later self.old.sink self.new.sink }
         ensures frame { (self.new.number ≡ self.old.number) × (self.new.blocks ≡ self.old.blocks) × (self.new.fault ≡ self.old.fault) × (self.new.printer.older ≡ self.old.printer.older) }
         ensures lays { (s : Start) (ts : List LayoutToken) → Opened s (seen S.Sink.text S.Sink.rule self.old) → Goes s ts (seen S.Sink.text S.Sink.rule self.old) → Fit ts (view token.entry) → Lay s ts (view token.entry) (seen S.Sink.text S.Sink.rule self.new) result }

@@ -32,6 +32,7 @@ impl Printer {
 
     // A token comes.
     pub fn give<S: Sink>(&mut self, sink: &mut S, token: Token<&[u8]>) -> Result<(), PrinterFault>
+        ensures rule { S.Sink.rule sink.new ≡ S.Sink.rule sink.old }
         ensures later { S.Sink.later sink.old sink.new }
         ensures older { self.new.older ≡ self.old.older }
         ensures gives { (m : ℕ) (pen : LayoutPen) (h : List LayoutToken) (number : ℕ) (out : List ℕ) → Prints m pen h number out self.old → widths h ≤ 120 → Next (length pen.blocks) h (view token.entry) → Given m pen h number out (view token.entry) (S.Sink.rule sink.old) (S.Sink.text sink.old) self.old.older (S.Sink.text sink.new) self.new ((self.new ≡ self.old) × (sink.new ≡ sink.old)) result }
@@ -43,6 +44,7 @@ impl Printer {
 
     // The document ends: all tokens pass, and a newline behind them if there was one.
     pub fn finish<S: Sink>(&mut self, sink: &mut S) -> Result<(), PrinterFault>
+        ensures rule { S.Sink.rule sink.new ≡ S.Sink.rule sink.old }
         ensures later { S.Sink.later sink.old sink.new }
         ensures older { self.new.older ≡ self.old.older }
         ensures finishes { (m : ℕ) (pen : LayoutPen) (h : List LayoutToken) (number : ℕ) (out : List ℕ) → Prints m pen h number out self.old → Finished m pen h number out (S.Sink.rule sink.old) (S.Sink.text sink.old) self.old.older (S.Sink.text sink.new) self.new.pen result }
@@ -78,6 +80,7 @@ impl Printer {
 
     // Writes the newline at the end, if there was a token.
     fn end_line<S: Sink>(&mut self, sink: &mut S) -> Result<(), PrinterFault>
+        ensures rule { S.Sink.rule sink.new ≡ S.Sink.rule sink.old }
         ensures later { S.Sink.later sink.old sink.new }
         ensures older { self.new.older ≡ self.old.older }
         ensures ends { (m : ℕ) (pen : LayoutPen) (h : List LayoutToken) (number : ℕ) (out : List ℕ) → Prints m pen h number out self.old → Ended m number out (S.Sink.rule sink.old) (S.Sink.text sink.old) self.old.older (S.Sink.text sink.new) self.new.pen result }

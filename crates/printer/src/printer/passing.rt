@@ -20,6 +20,7 @@ use sink::write::write_both;
 impl Printer {
     // Passes all tokens that may pass, given whether the document has ended.
     pub(crate) fn pass_all<S: Sink>(&mut self, sink: &mut S, over: bool) -> Result<(), PrinterFault>
+        ensures rule { S.Sink.rule sink.new ≡ S.Sink.rule sink.old }
         ensures later { S.Sink.later sink.old sink.new }
         ensures older { self.new.older ≡ self.old.older }
         ensures passes { (m : ℕ) (pen : LayoutPen) (h : List LayoutToken) (number : ℕ) (out : List ℕ) → Prints m pen h number out self.old → Passes over m pen h number out (S.Sink.rule sink.old) (S.Sink.text sink.old) self.old.older (S.Sink.text sink.new) self.new result }
@@ -36,6 +37,7 @@ impl Printer {
 
     // Passes the first token, if it may pass.
     fn pass_first<S: Sink>(&mut self, sink: &mut S, over: bool) -> Result<bool, PrinterFault>
+        ensures rule { S.Sink.rule sink.new ≡ S.Sink.rule sink.old }
         ensures later { S.Sink.later sink.old sink.new }
         ensures older { self.new.older ≡ self.old.older }
         ensures passes { (m : ℕ) (pen : LayoutPen) (h : List LayoutToken) (number : ℕ) (out : List ℕ) → Prints m pen h number out self.old → Advanced over m pen h number out (S.Sink.rule sink.old) (S.Sink.text sink.old) self.old.older (S.Sink.text sink.new) self.new result }
@@ -69,6 +71,7 @@ impl Printer {
         token: Token<u16>,
         fits: bool,
     ) -> Result<(), SinkFault>
+        ensures rule { S.Sink.rule sink.new ≡ S.Sink.rule sink.old }
         ensures later { S.Sink.later sink.old sink.new }
         ensures older { self.new.older ≡ self.old.older }
         ensures writes { (m : ℕ) (pen : LayoutPen) (t : LayoutToken) (ts : List LayoutToken) (number : ℕ) (out : List ℕ) → Prints m pen (t ∷ ts) number out self.old → token ≡ shape t → Stepped (S.Sink.rule sink.old) (S.Sink.text sink.old) (writes m pen t fits) self.old.older (S.Sink.text sink.new) (Moved m (after m pen t fits) (out ++ writes m pen t fits) self.old self.new) result }
@@ -89,6 +92,7 @@ impl Printer {
 
     // Writes the first n text bytes that are held.
     fn write_text<S: Sink>(&mut self, sink: &mut S, n: u16) -> Result<(), SinkFault>
+        ensures rule { S.Sink.rule sink.new ≡ S.Sink.rule sink.old }
         ensures later { S.Sink.later sink.old sink.new }
         ensures older { self.new.older ≡ self.old.older }
         ensures writes { (m : ℕ) (pen : LayoutPen) (bytes : List ℕ) (ts : List LayoutToken) (number : ℕ) (out : List ℕ) → Prints m pen (Text bytes ∷ ts) number out self.old → n ≡ length bytes → Stepped (S.Sink.rule sink.old) (S.Sink.text sink.old) bytes self.old.older (S.Sink.text sink.new) (Moved m (record { column = pen.column + length bytes; blocks = pen.blocks }) (out ++ bytes) self.old self.new) result }
@@ -106,6 +110,7 @@ impl Printer {
         gap: Break,
         fits: bool,
     ) -> Result<(), SinkFault>
+        ensures rule { S.Sink.rule sink.new ≡ S.Sink.rule sink.old }
         ensures later { S.Sink.later sink.old sink.new }
         ensures older { self.new.older ≡ self.old.older }
         ensures writes { (m : ℕ) (pen : LayoutPen) (out : List ℕ) → At m pen out self.old.pen → Stepped (S.Sink.rule sink.old) (S.Sink.text sink.old) (writes m pen (Gap gap.blanks gap.offset) fits) self.old.older (S.Sink.text sink.new) (Moved m (after m pen (Gap gap.blanks gap.offset) fits) (out ++ writes m pen (Gap gap.blanks gap.offset) fits) self.old self.new) result }

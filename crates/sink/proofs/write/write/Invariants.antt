@@ -9,6 +9,7 @@ invariant-loop-byte g l =
     let s = l.initial.sink in
     let run = take l.byte-index l.bytes in
     record {
+      rule : m.rule l.sink ≡ m.rule s;
       later : m.later s l.sink;
       text : Leaves m.text m.rule s run l.sink;
       cases : (m.rule s).admits (m.text s ++ run) ≡ true;

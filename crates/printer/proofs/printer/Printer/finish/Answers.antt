@@ -21,4 +21,4 @@ returns-clause-finishes g c m pen h number out pr =
     let laws = g.met.S.Sink.laws in
     let e = c.in_ok-pass_all.ensures in
     let ps = e.passes m pen h number out pr in
-    finished_end m pen h number out (k.rule s) (k.text s) c.args.self.now.older _ _ _ _ _ (laws.beginnings s) ps (rw (laws.keeps _ _ e.later, e.older) at (c.end_line.ensures.ends m _ _ _ _ ps.1))
+    finished_end m pen h number out (k.rule s) (k.text s) c.args.self.now.older _ _ _ _ _ (laws.beginnings s) ps (rw (e.rule, e.older) at (c.end_line.ensures.ends m _ _ _ _ ps.1))

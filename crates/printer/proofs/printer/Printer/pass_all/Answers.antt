@@ -4,7 +4,7 @@ use Rattle.printer.proofs.Course.{begins, goes_on, stops, cuts, all_passed}
 use Rattle.printer.proofs.printer.Printer.pass_all.Goals as goal
 
 pub loop-init : goal.loop-init
-loop-init g c = record { later = g.met.S.Sink.laws.stays c.args.sink.now; older = refl; so = λ m pen h number out pr. begins pr (g.met.S.Sink.laws.held c.args.sink.now) }
+loop-init g c = record { rule = refl; later = g.met.S.Sink.laws.stays c.args.sink.now; older = refl; so = λ m pen h number out pr. begins pr (g.met.S.Sink.laws.held c.args.sink.now) }
 
 pub returns-in_err-pass_first-clause-passes : goal.returns-in_err-pass_first-clause-passes
 returns-in_err-pass_first-clause-passes g c m pen h number out pr =
@@ -12,7 +12,7 @@ returns-in_err-pass_first-clause-passes g c m pen h number out pr =
     let i = c.loop.invariant in
     let so = i.so m pen h number out pr in
     let p = err_from_is_err_and c.from_residual.result c.from_residual.ensures.1 in
-    rw (p.1, p.2) (cuts so (laws.beginnings c.args.sink.now) (rw (laws.keeps _ _ i.later, i.older) at (c.in_err-pass_first.ensures.passes m _ _ _ _ so.prints)))
+    rw (p.1, p.2) (cuts so (laws.beginnings c.args.sink.now) (rw (i.rule, i.older) at (c.in_err-pass_first.ensures.passes m _ _ _ _ so.prints)))
 
 pub returns-then-not-branch-clause-passes : goal.returns-then-not-branch-clause-passes
 returns-then-not-branch-clause-passes g c m pen h number out pr =
@@ -25,11 +25,12 @@ loop-preserved g c =
     let i = c.loop.invariant in
     let e = c.in_ok-pass_first.ensures in
     record {
+      rule = e.rule ∙ i.rule;
       later = laws.goes _ _ _ i.later e.later;
       older = e.older ∙ i.older;
       so = λ m pen h number out pr.
           let so = i.so m pen h number out pr in
-          goes_on so (rw (c.if-not-branch.false, laws.keeps _ _ i.later) at (e.passes m _ _ _ _ so.prints));
+          goes_on so (rw (c.if-not-branch.false, i.rule) at (e.passes m _ _ _ _ so.prints));
     }
 
 pub returns-clause-passes : goal.returns-clause-passes
