@@ -10,9 +10,8 @@ use Rattle.rules.specs.Rules.{Rules, Place, behind_all, moved}
 use Rattle.rules.specs.Machine.{State, on, judged, step, low, short, reply}
 use Rattle.reading.specs.Accepts.{at}
 use Rattle.reader.specs.declared.over.Own.{Own}
-use Rattle.reader.specs.declared.over.Over.{Over}
 use Rattle.reader.specs.Pieces.{own_word, own_tokens}
-use Rattle.reader.specs.State.{Held, state_of, Sound, Reading, reading, at_rest}
+use Rattle.reader.specs.State.{Held, state_of, Sound, Reading, at_rest}
 
 -- the brackets behind a word that does this, if they are not too many
 abbrev pub Gone : Move → List Bracket → List Bracket → Result (Unit {0}) Refusal → Type 0
@@ -35,16 +34,11 @@ abbrev pub StaysSound : Rules → Type 0
 StaysSound r = (s : State) (b : ℕ) (v : Reading) → Sound r s → Went r s b v → Sound r v.state
 
 -- a byte between words, at the place p
-abbrev pub Begins : Rules → Place → ℕ → Held → Held → Result (Option Own) Refusal → Type 0
-Begins r p b h h' (Ok o) = (h'.bytes ≡ h.bytes) × Went r (at p None []) b (record { state = state_of h'; ended = own_word o; given = own_tokens r o })
-Begins r p b h h' (Err e) = (judged r (at p None []) (step r (at p None []) b) ≡ refused (number_of e)) × (h' ≡ h)
+abbrev pub Begins : Rules → Place → ℕ → Held → Held → Option Own → Result (Unit {0}) Refusal → Type 0
+Begins r p b h h' o (Ok done) = (h'.bytes ≡ h.bytes) × Went r (at p None []) b (record { state = state_of h'; ended = own_word o; given = own_tokens r o })
+Begins r p b h h' o (Err e) = (judged r (at p None []) (step r (at p None []) b) ≡ refused (number_of e)) × (h' ≡ h) × (o ≡ None)
 
--- any byte, as a machine takes it
-abbrev pub Goes : Rules → State → ℕ → Held → Result Over Refusal → Type 0
-Goes r s b h (Ok o) = Went r s b (reading r h o)
-Goes r s b h (Err e) = (judged r s (step r s b) ≡ refused (number_of e)) × (state_of h ≡ s)
-
--- and as a reader does
+-- any byte
 abbrev pub Steps : Rules → State → ℕ → Reading → Result (Unit {0}) Refusal → Type 0
 Steps r s b v (Ok done) = Went r s b v
 Steps r s b v (Err e) = (judged r s (step r s b) ≡ refused (number_of e)) × (v ≡ at_rest s)
@@ -54,9 +48,9 @@ pub record Closed (r : Rules) (s : State) (v : Reading) : Type 0 where
   pub state : v.state ≡ at (behind_all r s.place v.ended) None []
   pub answered : reply r s end ≡ gives v.ended v.given
 
-abbrev pub Closes : Rules → State → Held → Result Over Refusal → Type 0
-Closes r s h (Ok o) = Closed r s (reading r h o)
-Closes r s h (Err e) = (reply r s end ≡ refused (number_of e)) × (state_of h ≡ s)
+-- an end that is taken does so too
+abbrev pub EndsSound : Rules → Type 0
+EndsSound r = (s : State) (v : Reading) → Sound r s → Closed r s v → Sound r v.state
 
 abbrev pub Finishes : Rules → State → Reading → Result (Unit {0}) Refusal → Type 0
 Finishes r s v (Ok done) = Closed r s v

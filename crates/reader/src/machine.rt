@@ -16,18 +16,19 @@ mod closing;
 mod placing;
 mod taking;
 
+// The fields that begin as zeros stand first and together, so that a new machine is filled at one go.
 #[derive(Drop)]
 pub(crate) struct Machine<L: Language> {
     language: PhantomData<L>,
-    // what may come next, and the open brackets, the innermost last
-    expects: Expects,
-    brackets: ArrayVec<Bracket, MOST_OPEN>,
-    // how far the word under way has come; none between words
-    inside: Option<Inside>,
     // the bytes of the word under way, or of the collected word that is over
     word: Bytes,
     // the only byte so far of the word under way, as long as it waits to be put into `word`
     begun: Option<u8>,
+    // how far the word under way has come; none between words
+    inside: Option<Inside>,
+    // what may come next, and the open brackets, the innermost last
+    expects: Expects,
+    brackets: ArrayVec<Bracket, MOST_OPEN>,
 }
 
 impl<L: Language> Model for Machine<L> {
@@ -43,21 +44,29 @@ impl<L: Language> Model for Machine<L> {
 }
 
 impl<L: Language> Machine<L> {
-    ghost use Rattle.reader.specs.State.{settled};
+    ghost use Rattle.reader.specs.State.{state_of, Sound, settled};
 
     // A machine before the first byte.
+    #[tactic(auto, using(crate::proofs::Sound::sound_fresh))]
     pub(crate) fn new() -> Machine<L>
         ensures place { result.place ≡ first_place L.Language.rules }
         ensures inside { result.inside ≡ None }
     {
         Machine {
             language: PhantomData,
-            expects: L::start(),
-            brackets: ArrayVec::new(),
-            inside: None,
             word: Bytes::new(),
             begun: None,
+            inside: None,
+            expects: L::start(),
+            brackets: ArrayVec::new(),
         }
+    }
+
+    // What every machine keeps.
+    pub(crate) fn is_sound(&self)
+        ensures { Sound L.Language.rules (state_of self.now) }
+    {
+        let _expects = self.expects;
     }
 
     // The bytes collected last.

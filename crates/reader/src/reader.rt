@@ -16,7 +16,7 @@ pub const MOST_OPEN: usize = 64;
 
 #[derive(Drop)]
 pub struct Reader<L: Language> {
-    machine: Machine<L>,
+    pub(crate) machine: Machine<L>,
     over: Over,
 }
 

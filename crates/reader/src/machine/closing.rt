@@ -1,8 +1,8 @@
 // How the machine takes the end.
 ghost use Rattle.std.specs.Prelude.{◌≡◌, ◌&&◌};
 ghost use Rattle.rules.specs.Machine.{no_brackets};
-ghost use Rattle.reader.specs.State.{expecting, state_of};
-ghost use Rattle.reader.specs.Goes.{Closes};
+ghost use Rattle.reader.specs.State.{expecting, state_of, reading};
+ghost use Rattle.reader.specs.Goes.{Finishes};
 
 use crate::machine::Machine;
 use crate::over::Over;
@@ -12,14 +12,15 @@ use rules::place::Expects;
 use rules::word::Inside;
 
 impl<L: Language> Machine<L> {
-    // Takes the end, and answers what it has ended.
-    pub(crate) fn end(&mut self) -> Result<Over, Refusal>
-        ensures { Closes L.Language.rules (state_of self.old) self.new result }
+    // Takes the end, and writes down what it has ended, in place of what stood there.
+    pub(crate) fn end(&mut self, over: &mut Over) -> Result<(), Refusal>
+        ensures { Finishes L.Language.rules (state_of self.old) (reading L.Language.rules self.new over.new) result }
     {
         self.settle();
+        *over = Over::default();
         let Some(inside) = self.inside else {
             return if self.may_close(self.expects) {
-                Ok(Over::default())
+                Ok(())
             } else {
                 Err(Refusal::Unfinished)
             };
@@ -31,10 +32,8 @@ impl<L: Language> Machine<L> {
         }
         self.expects = behind;
         self.inside = None;
-        Ok(Over {
-            collected: Some(piece),
-            own: None,
-        })
+        over.collected = Some(piece);
+        Ok(())
     }
 
     // May the collected word end here, and a document behind it, where this may come?

@@ -1,6 +1,6 @@
 // Words at their place.
 ghost use Rattle.std.specs.Prelude.{◌≡◌, reverse};
-ghost use Rattle.rules.specs.Rules.{innermost};
+ghost use Rattle.rules.specs.Rules.{innermost, admits};
 ghost use Rattle.reader.specs.Pieces.{piece_at};
 ghost use Rattle.reader.specs.State.{expecting, Around};
 ghost use Rattle.reader.specs.Goes.{Gone};
@@ -15,23 +15,29 @@ use rules::place::{Bracket, Expects, Move, Spot};
 use rules::word::Inside;
 
 impl<L: Language> Machine<L> {
-    // The innermost open bracket.
-    fn innermost(&self) -> Option<Bracket>
-        ensures { result ≡ innermost self.now.place.brackets }
+    // Where a word would stand where this may come.
+    fn spot(&self, expects: Expects) -> Spot
+        ensures { result ≡ record { expects = expects; innermost = innermost self.now.place.brackets } }
     {
-        self.brackets.last().copied()
+        Spot {
+            expects,
+            innermost: self.brackets.last().copied(),
+        }
+    }
+
+    // May a word with this first byte stand where this may come?
+    pub(crate) fn admits(&self, expects: Expects, first: u8) -> bool
+        ensures { result ≡ admits L.Language.rules (expecting expects self.now.place) first }
+    {
+        L::moves(self.spot(expects), first).is_some()
     }
 
     // What stands around a word with this first byte where this may come; none where it may not stand there.
     pub(crate) fn piece(&self, expects: Expects, first: u8) -> Option<Piece>
         ensures { result ≡ piece_at L.Language.rules (expecting expects self.now.place) first }
     {
-        let spot = Spot {
-            expects,
-            innermost: self.innermost(),
-        };
         let lead = L::lead(expects, first);
-        L::moves(spot, first).map(|step| Piece { lead, step })
+        L::moves(self.spot(expects), first).map(|step| Piece { lead, step })
     }
 
     // What stands around the word under way, which is collected: it may stand at its place.

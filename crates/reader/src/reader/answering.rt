@@ -3,7 +3,7 @@ ghost use Rattle.std.specs.Prelude.{◌≡◌, length};
 ghost use Rattle.rules.specs.Machine.{grammar_of, means};
 ghost use Rattle.reading.proofs.Shows.{shows_laws};
 
-use crate::over::count_if;
+use crate::over::{Over, count_if};
 use crate::reader::Reader;
 use crate::tokens::token_of;
 use grammar::grammar::{Grammar, Step};
@@ -56,6 +56,17 @@ impl<L: Language> Reader<L> {
         ensures words { result.words ≡ length self.now.ended }
         ensures tokens { result.tokens ≡ length self.now.given }
     {
+        // most bytes end none
+        if let Over {
+            collected: None,
+            own: None,
+        } = self.over
+        {
+            return Step {
+                words: 0,
+                tokens: 0,
+            };
+        }
         Step {
             words: self.over.words(),
             tokens: self.over.tokens(),

@@ -21,28 +21,17 @@ impl<L: Language> Reader<L> {
         }
     }
 
-    // Forgets what was ended.
-    fn forget(&mut self)
-        ensures { self.new ≡ at_rest self.old.state }
-    {
-        self.over = Over::default();
-    }
-
     // Takes a byte. What it has ended, `ended` and `token` then tell.
     pub fn step(&mut self, byte: u8) -> Result<(), Refusal>
         ensures { Steps L.Language.rules self.old.state byte self.new result }
     {
-        self.forget();
-        self.over = self.machine.take(byte)?;
-        Ok(())
+        self.machine.take(byte, &mut self.over)
     }
 
     // Takes the end. What it has ended, `ended` and `token` then tell.
     pub fn finish(&mut self) -> Result<(), Refusal>
         ensures { Finishes L.Language.rules self.old.state self.new result }
     {
-        self.forget();
-        self.over = self.machine.end()?;
-        Ok(())
+        self.machine.end(&mut self.over)
     }
 }

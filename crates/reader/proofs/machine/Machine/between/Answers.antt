@@ -13,7 +13,7 @@ invariant_of-self-in-Sole g c =
     let b = c.args.byte in
     let p = expecting c.args.expects c.args.self.now.place in
     let q = expecting c.behind-self-inside.result (held_of (record c.self.inside { brackets = c.go.new.brackets })).place in
-    sound_went r (at p None []) b (record { state = at q None []; ended = (b ∷ []) ∷ []; given = piece_tokens r c.in_ok-piece-in-Sole.piece (b ∷ []) }) c.requires (search rules)
+    sound_went r (at p None []) b (record { state = at q None []; ended = (b ∷ []) ∷ []; given = piece_tokens r c.in_ok-piece-in-Sole.piece (b ∷ []) }) c.requires.sound (search rules)
 
 pub returns-in_ok-go-in-Sole : goal.returns-in_ok-go-in-Sole
 returns-in_ok-go-in-Sole g c =
@@ -30,4 +30,4 @@ invariant_of-self-in-Starts g c =
     let b = c.args.byte in
     let p = expecting c.args.expects c.args.self.now.place in
     let q = expecting c.args.expects (held_of c.self.inside).place in
-    sound_went g.L.Language.rules (at p None []) b (at_rest (at q (Some c.in-Starts.inside) (b ∷ []))) c.requires (search rules)
+    sound_went g.L.Language.rules (at p None []) b (at_rest (at q (Some c.in-Starts.inside) (b ∷ []))) c.requires.sound (search rules)

@@ -28,12 +28,12 @@ returns-in_ok-collect-in-Closes g c =
     let w = closes r g.L.Language.lawful h.place c.args.inside h.bytes c.args.byte c.around-piece.result u.sound u.piece turn small in
     search rules
 
-pub between-requires : goal.between-requires
-between-requires g c =
+pub between-requires-clause-sound : goal.between-requires-clause-sound
+between-requires-clause-sound g c =
     leaves g.L.Language.rules g.L.Language.lawful c.args.self.now c.args.inside c.around-piece-in-Never.result c.behind.result c.args.self.now.place c.around-piece-in-Never.ensures c.behind.ensures refl
 
-pub returns-in_err-own-in-Never : goal.returns-in_err-own-in-Never
-returns-in_err-own-in-Never g c =
+pub returns-in-Err : goal.returns-in-Err
+returns-in-Err g c =
     let r = g.L.Language.rules in
     let h = c.args.self.now in
     let u = c.around-piece-in-Never.ensures in
@@ -43,14 +43,14 @@ returns-in_err-own-in-Never g c =
     let f = refused_behind r g.L.Language.lawful h.place c.args.inside h.bytes c.args.byte c.around-piece-in-Never.result c.behind.result u.sound u.piece c.behind.ensures turn ends small in
     search rules
 
-pub returns-in_ok-own-in-Never : goal.returns-in_ok-own-in-Never
-returns-in_ok-own-in-Never g c =
+pub returns-in-Ok : goal.returns-in-Ok
+returns-in-Ok g c =
     let r = g.L.Language.rules in
     let h = c.args.self.now in
     let u = c.around-piece-in-Never.ensures in
-    let b = c.in_ok-own-in-Never.ensures in
+    let b = c.in-Ok.ensures in
     let turn : r.turns c.args.inside h.bytes c.args.byte ≡ NeverTurns = search rules in
     let ends : (r.whole c.args.inside h.bytes && r.delimits c.args.byte) ≡ true = search rules in
     let small : short h.bytes ≡ true = search rules in
-    let w = went_behind r g.L.Language.lawful h.place c.args.inside h.bytes c.args.byte c.around-piece-in-Never.result c.behind.result u.sound u.piece c.behind.ensures turn ends small (state_of c.between.new.self) c.in_ok-own-in-Never.own b.1 in
+    let w = went_behind r g.L.Language.lawful h.place c.args.inside h.bytes c.args.byte c.around-piece-in-Never.result c.behind.result u.sound u.piece c.behind.ensures turn ends small (state_of c.between.new.self) c.between.new.own b.1 in
     search rules
